@@ -1,0 +1,2 @@
+-- What the contracts of `line` mean.
+pub mod Word

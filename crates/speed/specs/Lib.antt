@@ -1,0 +1,2 @@
+-- What the contract of `speed` means.
+pub mod Speed

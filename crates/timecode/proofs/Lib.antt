@@ -1,0 +1,4 @@
+-- The laws of BCD bytes, of times and of positions, for any value.
+pub mod Bcd
+pub mod Tests
+pub mod Times

@@ -1,0 +1,3 @@
+-- What the contracts of `timecode` mean.
+pub mod Bcd
+pub mod Time
