@@ -2,8 +2,9 @@
 use mathlib.Core.Path.{_≡_}
 use mathlib.Core.List.{List}
 use Prim.Native.Nat.{ℕ, _+_, _-_, _≤_}
+use native.Mathlib.Decide.{ℕ-discrete}
 use native.Mathlib.Omega.{arith}
-use borrow.Author.Tests.{le-ltb, eq-eqb, eqb-true, not-false}
+use borrow.Author.Tests.{le-ltb, eq-eqb, ne-eqb, eqb-true, not-false}
 use lib.Dec.{ltb}
 use lib.ListN.{length, getD, take, drop, length-drop}
 use lib.Seq.{length-take-le}
@@ -29,6 +30,15 @@ whole block e =
 pub whole-reads : (block : List ℕ) → Whole block → readNo block ≡ 0
 unfolding readNo
 whole-reads block w = simp (le-ltb (length block) 3 (omega arith), eq-eqb _ _ (w .sized), eq-eqb _ _ (w .summed))
+
+-- the number stands in the fields, whatever it is
+pub fields-number : (block : List ℕ) → readFields block .no ≡ readNo block
+unfolding readFields
+fields-number block = by (ℕ-discrete (readNo block) 0)
+  where
+    by : Dec (readNo block ≡ 0) → readFields block .no ≡ readNo block
+    by (yes e) = rw e
+    by (no e) = rw (ne-eqb _ _ e)
 
 module _ (block : List ℕ) (e : readNo block ≡ 0) where
   pub length-read : length block ≡ countOf (getD block 0 0) + 3

@@ -1,0 +1,19 @@
+-- `command::row` meets its contract: the table is the list, row by row.
+use mathlib.Core.Path.{refl}
+use borrow.Author.Needs.{needs}
+use Rattle.command.specs.Commands.{commands}
+use Rattle.command.proofs.row.Statement.{statement}
+use Rattle.command.proofs.row.Tie as tie
+
+mul-result : tie.Need-mul-result
+mul-result c = search needs
+
+array-copy-out-result : tie.Need-array-copy-out-result
+array-copy-out-result c = search needs
+
+returns : tie.Need-returns
+unfolding commands
+returns c = refl
+
+pub row-spec : {M : Type 1} → statement M
+row-spec = tie.close (tie.spec mul-result array-copy-out-result returns)

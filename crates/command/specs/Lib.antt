@@ -1,0 +1,2 @@
+-- What the contracts of `command` mean.
+pub mod Commands

@@ -1,0 +1,15 @@
+-- `Deck::power_on` meets its contract.
+use borrow.Author.Needs.{needs}
+use Rattle.deck.proofs.Deck.power_on.Statement.{statement}
+use Rattle.deck.proofs.Deck.power_on.Tie as tie
+
+-- `Deck::power_on` meets its contract.
+
+power-on-requires : tie.Need-power-on-requires
+power-on-requires c κs = search needs
+
+returns : tie.Need-returns
+returns c = rw (c .power-on .ensures)
+
+pub power-on-spec : {M : Type 1} → statement M
+power-on-spec = tie.close (tie.spec power-on-requires returns)

@@ -1,0 +1,47 @@
+-- Time-out, as the code tests it.
+use Prim.Native.Nat.{ℕ, zero, suc, _+_, _-_, _<_, min}
+use mathlib.Core.Bool.{Bool, true, false, _&&_}
+use mathlib.Core.Path.{_≡_, refl, sym, _∙_}
+use mathlib.Core.List.{List, [], _∷_}
+use native.Mathlib.Decide.{decLt}
+use native.Mathlib.Nat.{suc-min-suc}
+use native.Mathlib.Omega.{arith}
+use borrow.Author.Tests.{lt-ltb, le-ltb, ltb-true}
+use lib.Dec.{ltb}
+use lib.ListN.{length, take}
+use Rattle.execute.specs.Replies.{timeOut}
+use Rattle.deck.specs.Line.{Deck, Answer, isOpen, timedOut, voided, silently, looked}
+
+-- the first bytes of an array are an open block, unless they are none
+pub opened : (n : ℕ) (block : List ℕ) → (n ≡ 0 → ⊥) → 0 < length block → isOpen (take (min n 17) block) ≡ true
+opened zero block h l = absurd (h refl)
+opened (suc n) [] h l = absurd (omega arith)
+opened (suc n) (b ∷ block) h l = rw (suc-min-suc n 16)
+
+exceeds : (t last gap : ℕ) → Dec (last + gap < t) → ltb gap (t - last) ≡ ltb (last + gap) t
+exceeds t last gap (yes h) = lt-ltb gap (t - last) (omega arith) ∙ sym (lt-ltb (last + gap) t h)
+exceeds t last gap (no h) = le-ltb gap (t - last) (omega arith) ∙ sym (le-ltb (last + gap) t (omega arith))
+
+-- the difference is tested in place of the sum
+pub past : (t last gap : ℕ) → ltb gap (t - last) ≡ ltb (last + gap) t
+past t last gap = exceeds t last gap (decLt (last + gap) t)
+
+right-true : (a b : Bool) → a && b ≡ true → b ≡ true
+right-true true b e = e
+right-true false b e = cc
+
+-- the time-out NAK is due before it is found
+pub overdue : (d : Deck) (t : ℕ) → timedOut d t ≡ true → d .last + 10000 < t
+overdue d t e = ltb-true (d .last + 10000) t (right-true (isOpen (d .block)) _ e)
+
+-- what a time-out comes to
+abbrev pub missed : Deck → Answer
+missed d = voided d timeOut (d .last + 10001)
+
+pub looked-late : (d : Deck) (t : ℕ) → timedOut d t ≡ true → looked d t ≡ missed d
+unfolding looked
+looked-late d t e = rw e
+
+pub looked-in-time : (d : Deck) (t : ℕ) → timedOut d t ≡ false → looked d t ≡ silently d
+unfolding looked
+looked-in-time d t e = rw e

@@ -1,0 +1,4 @@
+-- What the contracts of `deck` mean.
+pub mod Line
+pub mod Events
+pub mod Calls

@@ -1,0 +1,2 @@
+-- What the contracts of `effects` mean.
+pub mod Effects

@@ -1,0 +1,5 @@
+-- The laws that belong to no function.
+pub mod Written
+pub mod Carried
+pub mod Replies
+pub mod Faults

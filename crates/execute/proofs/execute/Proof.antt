@@ -1,0 +1,90 @@
+-- `execute::execute` meets its contract.
+use mathlib.Core.Path.{_≡_, sym, ap, _∙_}
+use Prim.Native.Nat.{ℕ}
+use native.Mathlib.Omega.{arith}
+use borrow.Author.Tests.{lt-ltb, le-ltb}
+use lib.ListN.{getD}
+use Rattle.block.specs.Read.{readNo}
+use Rattle.block.proofs.Reading.{length-read, fields-read, fields-number}
+use Rattle.command.specs.Commands.{commands, lookup}
+use Rattle.execute.specs.Execute.{executed, executedOut}
+use Rattle.execute.proofs.Carried.{as-shown, carried, execute-read, execute-bad}
+use borrow.Author.Needs.{needs}
+use Rattle.execute.proofs.execute.Statement.{statement}
+use Rattle.execute.proofs.execute.Tie as tie
+
+returns : tie.Need-returns
+unfolding executed executedOut
+returns c =
+    let e = lt-ltb _ _ (c .if1 .taken) in
+    (rw e, rw e)
+
+fields-requires : tie.Need-fields-requires
+fields-requires c κs = search needs
+
+refuse-requires : tie.Need-refuse-requires
+refuse-requires c κs = search needs
+
+same-length : tie.Need-same-length
+same-length c = search needs
+
+returns-2 : tie.Need-returns-2
+unfolding executed executedOut
+returns-2 c =
+    let a = c .before .before .before .before .before .before .before .before .before .before .args in
+    let block = a .bytes .now in
+    let f = c .before .before .before .before .before .before .fields in
+    let bad : readNo block ≡ 0 → ⊥ = λ e. c .before .before .before .before .if2 .taken (ap (λ h. h .no) (f .ensures) ∙ (fields-number block ∙ e)) in
+    rw (le-ltb _ _ (c .before .before .before .before .before .before .before .if1 .left)) (as-shown (a .out .now) (execute-bad (a .settings) block bad) (c .before .before .refuse .ensures))
+
+-- past the second test the block reads
+reads : (c : tie.Else2) → readNo (c .before .before .before .before .before .before .args .bytes .now) ≡ 0
+reads c =
+    let block = c .before .before .before .before .before .before .args .bytes .now in
+    sym (fields-number block) ∙ (sym (ap (λ h. h .no) (c .before .before .fields .ensures)) ∙ c .if2 .left)
+
+shared-slice-read-find : tie.Need-shared-slice-read-find
+shared-slice-read-find c =
+    let block = c .before .before .before .before .before .before .before .args .bytes .now in
+    omega (arith, length-read block (reads (c .before)))
+
+find-requires : tie.Need-find-requires
+find-requires c κs = search needs
+
+data-requires : tie.Need-data-requires
+data-requires c κs = search needs
+
+carry-requires : tie.Need-carry-requires
+carry-requires c κs = search needs
+
+same-length-2 : tie.Need-same-length-2
+same-length-2 c = search needs
+
+returns-3 : tie.Need-returns-3
+unfolding executed executedOut
+returns-3 c =
+    let a = c .before .before .before .before .before .before .before .before .before .before .before .before .before .args in
+    let block = a .bytes .now in
+    let zero = reads (c .before .before .before .before .before .before .before) in
+    let f = c .before .before .before .before .before .before .before .before .before .fields in
+    let command : f .result .command ≡ getD block 1 0 = ap (λ h. h .command) (f .ensures ∙ fields-read block zero) in
+    let kind = c .before .before .before .before .before .find .ensures ∙ ap (λ (n : ℕ). lookup commands (getD block 0 0) n) command in
+    rw (le-ltb _ _ (c .before .before .before .before .before .before .before .before .before .before .if1 .left))
+    (as-shown (a .out .now) (execute-read (a .settings) block zero ∙ carried (a .settings) (sym kind) (sym (c .before .before .before .before .«data» .ensures)))
+    (c .before .before .carry .ensures))
+
+pub execute-spec : {M : Type 1} → statement M
+execute-spec =
+    tie.close
+    (tie.spec
+    returns
+    fields-requires
+    refuse-requires
+    same-length
+    returns-2
+    shared-slice-read-find
+    find-requires
+    data-requires
+    carry-requires
+    same-length-2
+    returns-3)

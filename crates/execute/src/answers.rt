@@ -1,0 +1,118 @@
+// Replies: each is a block at the front of the output.
+use super::Executed;
+use command::Effect;
+use command::ReplyKind;
+use effects::first;
+use effects::perform;
+use effects::takes;
+use settings::Settings;
+use settings::Which;
+ghost use mathlib.Core.Path.{_≡_};
+ghost use mathlib.Core.List.{[]};
+ghost use Prim.Native.Nat.{_≤_};
+ghost use lib.ListN.{length};
+ghost use Rattle.execute.specs.Replies.{answered, refused};
+ghost use Rattle.execute.specs.Execute.{pointCode, carry, shown, shownOut};
+
+const UNDEFINED: u8 = 0x01;
+
+// A reply that is no NAK.
+fn answer(s: Settings, group: u8, command: u8, data: &[u8], out: &mut [u8]) -> Executed
+    requires { ⌜ (group ≤ 15) × (length (now «data») ≤ 15) × (18 ≤ length (now out)) ⌝ }
+    ensures { λ r. ⌜ r ≡ shown (answered s group command (now («data» .entry))) ⌝
+        ∗ ⌜ now (out .exit) ≡ shownOut (answered s group command (now («data» .entry))) (now (out .entry)) ⌝ }
+{
+    let w = block::write(group, command, data, out);
+    Executed {
+        no: 0,
+        settings: s,
+        len: w.len,
+        quiets: false,
+    }
+}
+
+pub(super) fn refuse(s: Settings, why: u8, out: &mut [u8]) -> Executed
+    requires { ⌜ 18 ≤ length (now out) ⌝ }
+    ensures { λ r. ⌜ r ≡ shown (refused s why) ⌝ ∗ ⌜ now (out .exit) ≡ shownOut (refused s why) (now (out .entry)) ⌝ }
+{
+    let w = super::nak(why, out);
+    Executed {
+        no: 0,
+        settings: s,
+        len: w.len,
+        quiets: super::opens_quiet(why),
+    }
+}
+
+fn acknowledge(effect: Effect, s: Settings, data: &[u8], out: &mut [u8]) -> Executed
+    requires { ⌜ 18 ≤ length (now out) ⌝ }
+    ensures { λ r. ⌜ r ≡ shown (carry (ReplyKind.Ack effect) s (now («data» .entry))) ⌝
+        ∗ ⌜ now (out .exit) ≡ shownOut (carry (ReplyKind.Ack effect) s (now («data» .entry))) (now (out .entry)) ⌝ }
+{
+    if takes(effect, data) {
+        return answer(perform(effect, s, data), 0x1, 0x01, &[], out);
+    }
+    refuse(s, UNDEFINED, out)
+}
+
+fn point_code(which: Which) -> u8
+    ensures { λ r. ⌜ r ≡ pointCode which ⌝ }
+{
+    match which {
+        Which::In => 0x10,
+        Which::Out => 0x11,
+    }
+}
+
+fn point_time(which: Which, s: Settings, out: &mut [u8]) -> Executed
+    requires { ⌜ 18 ≤ length (now out) ⌝ }
+    ensures { λ r. ⌜ r ≡ shown (carry (ReplyKind.PointTime which) s []) ⌝
+        ∗ ⌜ now (out .exit) ≡ shownOut (carry (ReplyKind.PointTime which) s []) (now (out .entry)) ⌝ }
+{
+    let point = s.point(which);
+    let time = timecode::time(point.at);
+    answer(s, 0x7, point_code(which), &time.bytes, out)
+}
+
+fn tape_time(s: Settings, data: &[u8], out: &mut [u8]) -> Executed
+    requires { ⌜ 18 ≤ length (now out) ⌝ }
+    ensures { λ r. ⌜ r ≡ shown (carry ReplyKind.TapeTime s (now («data» .entry))) ⌝
+        ∗ ⌜ now (out .exit) ≡ shownOut (carry ReplyKind.TapeTime s (now («data» .entry))) (now (out .entry)) ⌝ }
+{
+    let n = first(data);
+    if n < 1 || 4 < n {
+        return refuse(s, UNDEFINED, out);
+    }
+    let time = timecode::time(s.position);
+    let code = if n == 2 { 0x06 } else { 0x04 };
+    answer(s, 0x7, code, &time.bytes, out)
+}
+
+fn status(s: Settings, data: &[u8], out: &mut [u8]) -> Executed
+    requires { ⌜ 18 ≤ length (now out) ⌝ }
+    ensures { λ r. ⌜ r ≡ shown (carry ReplyKind.Status s (now («data» .entry))) ⌝
+        ∗ ⌜ now (out .exit) ≡ shownOut (carry ReplyKind.Status s (now («data» .entry))) (now (out .entry)) ⌝ }
+{
+    let n = first(data);
+    if n < 1 || 13 < n {
+        return refuse(s, UNDEFINED, out);
+    }
+    let bytes = s.status();
+    let count = n as usize;
+    answer(s, 0x7, 0x20, &bytes[..count], out)
+}
+
+pub(super) fn carry(kind: ReplyKind, s: Settings, data: &[u8], out: &mut [u8]) -> Executed
+    requires { ⌜ 18 ≤ length (now out) ⌝ }
+    ensures { λ r. ⌜ r ≡ shown (carry kind s (now («data» .entry))) ⌝
+        ∗ ⌜ now (out .exit) ≡ shownOut (carry kind s (now («data» .entry))) (now (out .entry)) ⌝ }
+{
+    match kind {
+        ReplyKind::Undefined => refuse(s, UNDEFINED, out),
+        ReplyKind::Ack(effect) => acknowledge(effect, s, data, out),
+        ReplyKind::Device => answer(s, 0x1, 0x11, &[0x00, 0x02], out),
+        ReplyKind::PointTime(which) => point_time(which, s, out),
+        ReplyKind::TapeTime => tape_time(s, data, out),
+        ReplyKind::Status => status(s, data, out),
+    }
+}

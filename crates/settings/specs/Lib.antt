@@ -1,0 +1,3 @@
+-- What the contracts of `settings` mean.
+pub mod Settings
+pub mod Status
