@@ -10,11 +10,11 @@ use Rattle.execute.specs.Execute.{execute}
 use Rattle.execute.specs.Replies.{timeOut, opensQuiet}
 use Rattle.settings.specs.declared.Settings.{Settings}
 use Rattle.deck.specs.Line.{Event, byte, timeOf, Deck, deck, Answer, silently, freeAfter, isOpen, looked, size, taken}
-use Rattle.deck.specs.Line.{withSettings, after, says, run, said}
+use Rattle.deck.specs.Line.{withSettings, after, says}
 use Rattle.deck.specs.Events.{Gives, nakAt, tape, tapes, NoByte, Others, Sending, sent, next, Begun, unbegun, begun}
-use Rattle.deck.proofs.Steps.{look-shut, look-early, look-in-time, taken-full, taken-more}
+use Rattle.deck.proofs.Steps.{look-shut, look-early, look-in-time, taken-full, taken-more, taken-from}
 use Rattle.deck.proofs.Steps.{answers-unheard, answers-clean, answers-flagged, answers-late}
-use Rattle.deck.proofs.Steps.{gives-cons, gives-one, gives-append}
+use Rattle.deck.proofs.Steps.{gives-none, gives-cons, gives-one, gives-append}
 
 pub tapes-append : (s : Settings) (es fs : List Event) → tapes s (es ++ fs) ≡ tapes (tapes s es) fs
 tapes-append s [] fs = refl
@@ -24,8 +24,7 @@ tapes-append s (e ∷ es) fs = tapes-append (tape s e) es fs
 
 pub others-silent : (d : Deck) (es : List Event) → Others (d .last) es
     → Gives d es [] (withSettings d (tapes (d .settings) es))
-unfolding run said
-others-silent d [] o = (refl, refl)
+others-silent d [] o = gives-none d
 others-silent d (e ∷ es) o =
     gives-cons d e es (answers-unheard d e (look-early d (timeOf e) (o .1)) (inl (o .0)))
     (others-silent (withSettings d (tape (d .settings) e)) es (o .2))
@@ -36,12 +35,6 @@ others-silent d (e ∷ es) o =
 size-more : (block : List ℕ) (b : ℕ) (bytes : List ℕ) → size (block ++ b ∷ bytes) ≡ size (block ++ b ∷ [])
 size-more [] b bytes = refl
 size-more (c ∷ block) b bytes = refl
-
--- of the deck, only its quiet and its settings count
-taken-from : (o p : List ℕ) (l m f : ℕ) (s : Settings) (block : List ℕ) (t : ℕ)
-    → taken (deck o l f s) block t ≡ taken (deck p m f s) block t
-unfolding taken
-taken-from o p l m f s block t = refl
 
 carried : {t end : ℕ} {bytes : List ℕ} {es : List Event} → Sending t bytes es end → (d : Deck) (b : ℕ)
     → looked d t ≡ silently d → d .free ≤ t → length (d .block ++ b ∷ bytes) ≤ size (d .block ++ b ∷ bytes)
@@ -86,8 +79,8 @@ block-answered d b {end = end} {bytes = bytes} e h x n =
 -- a proper beginning gets none
 pub beginning-silent : {d : Deck} {last : ℕ} {bytes : List ℕ} {es : List Event} → Begun d bytes es last
     → Gives d es [] (deck bytes last (d .free) (tapes (d .settings) es))
-unfolding run said
-beginning-silent (unbegun {d} e) = (refl, ap (λ (o : List ℕ). deck o (d .last) (d .free) (d .settings)) e)
+beginning-silent (unbegun {d} e) =
+    let g = gives-none d in (g .0, g .1 ∙ ap (λ (o : List ℕ). deck o (d .last) (d .free) (d .settings)) e)
 beginning-silent (begun {d} {t} {b} {last} {bytes} {es} others e h x n o) =
     rw (tapes-append (d .settings) es others)
     (gives-append d (byte t b 0 ∷ es) others

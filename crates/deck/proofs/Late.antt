@@ -10,7 +10,7 @@ use borrow.Author.Tests.{lt-ltb, le-ltb, ltb-true}
 use lib.Dec.{ltb}
 use lib.ListN.{length, take}
 use Rattle.execute.specs.Replies.{timeOut}
-use Rattle.deck.specs.Line.{Deck, Answer, isOpen, timedOut, voided, silently, looked}
+use Rattle.deck.specs.Line.{Deck, Answer, isOpen, timedOut, voided}
 
 -- the first bytes of an array are an open block, unless they are none
 pub opened : (n : ℕ) (block : List ℕ) → (n ≡ 0 → ⊥) → 0 < length block → isOpen (take (min n 17) block) ≡ true
@@ -37,11 +37,3 @@ overdue d t e = ltb-true (d .last + 10000) t (right-true (isOpen (d .block)) _ e
 -- what a time-out comes to
 abbrev pub missed : Deck → Answer
 missed d = voided d timeOut (d .last + 10001)
-
-pub looked-late : (d : Deck) (t : ℕ) → timedOut d t ≡ true → looked d t ≡ missed d
-unfolding looked
-looked-late d t e = rw e
-
-pub looked-in-time : (d : Deck) (t : ℕ) → timedOut d t ≡ false → looked d t ≡ silently d
-unfolding looked
-looked-in-time d t e = rw e

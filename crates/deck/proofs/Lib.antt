@@ -2,6 +2,7 @@
 
 -- of the deck between its events
 pub mod Steps
+pub mod Cases
 pub mod Blocks
 pub mod Quiet
 pub mod Looks

@@ -5,20 +5,21 @@ use Prim.Native.Nat.{ℕ, _≤_}
 use native.Mathlib.Omega.{arith}
 use Rattle.deck.specs.Line.{Event, byte, look, position, cassette, timeOf, Deck, Answer, looked, after, says, run, said}
 use Rattle.deck.specs.Events.{Gives, Ordered, withoutLooks}
-use Rattle.deck.proofs.Steps.{look-alone, look-first, gives-cons}
+use Rattle.deck.proofs.Steps.{look-alone, look-first, gives-cons, gives-alike}
 
 -- a look before an event
 pub look-idle : (d : Deck) (u : ℕ) (e : Event) (es : List Event) → u ≤ timeOf e
     → Gives d (look u ∷ e ∷ es) (said d (e ∷ es)) (run d (e ∷ es))
-unfolding run said
 look-idle d u e es h =
     let a = looked d u in
     let p = look-first d u e h in
-    let g = gives-cons d (look u) (e ∷ es) (look-alone d u) (refl, refl) in (
+    let g = gives-cons d (look u) (e ∷ es) (look-alone d u) (gives-cons (a .deck) e es refl (refl, refl)) in
+    let k = gives-cons d e es refl (refl, refl) in (
       g .0
           ∙ sym (append-assoc (a .replies) (says (a .deck) e) (said (after (a .deck) e) es))
-          ∙ ap (λ (x : Answer). x .replies ++ said (x .deck) es) p,
-      g .1 ∙ ap (λ (x : Answer). run (x .deck) es) p,
+          ∙ ap (λ (x : Answer). x .replies ++ said (x .deck) es) p
+          ∙ sym (k .0),
+      g .1 ∙ ap (λ (x : Answer). run (x .deck) es) p ∙ sym (k .1),
     )
 
 ordered-from : (t v : ℕ) (es : List Event) → t ≤ v → Ordered v es → Ordered t es
@@ -42,19 +43,25 @@ module _ (u : ℕ) where
   closed-idle d v [] o = look-idle d v (look u) [] (o .0)
   closed-idle d v (e ∷ es) o = look-idle d v e (closed es) (o .0)
 
+  -- without the looks among es the deck gives the same
+  abbrev Idle : Deck → List Event → List Event → Type 0
+  Idle d es fs = Gives d (closed es) (said d (closed fs)) (run d (closed fs))
+
+  next-idle : (d : Deck) (e : Event) (es : List Event) → Idle (after d e) es (withoutLooks es) → Idle d (e ∷ es) (e ∷ withoutLooks es)
+  next-idle d e es g = gives-alike d e e (closed es) (closed (withoutLooks es)) refl g
+
   -- the looks before it may be left out
   pub looks-idle : (d : Deck) (t : ℕ) (es : List Event) → Ordered t (es ++ look u ∷ [])
       → (said d (es ++ look u ∷ []) ≡ said d (withoutLooks es ++ look u ∷ []))
       × (run d (es ++ look u ∷ []) ≡ run d (withoutLooks es ++ look u ∷ []))
-  unfolding run said
   looks-idle d t [] o = (refl, refl)
-  looks-idle d t (byte v b flags ∷ es) o = gives-cons d (byte v b flags) (closed es) refl (looks-idle _ v es (o .1))
+  looks-idle d t (byte v b flags ∷ es) o = next-idle d (byte v b flags) es (looks-idle _ v es (o .1))
   looks-idle d t (look v ∷ es) o =
-      let g = gives-cons d (look v) (closed es) refl (looks-idle _ v es (o .1)) in
+      let g = next-idle d (look v) es (looks-idle _ v es (o .1)) in
       let h = closed-idle d v (withoutLooks es) (ordered-without v es (o .1)) in
       (g .0 ∙ h .0, g .1 ∙ h .1)
-  looks-idle d t (position v p ∷ es) o = gives-cons d (position v p) (closed es) refl (looks-idle _ v es (o .1))
-  looks-idle d t (cassette v ∷ es) o = gives-cons d (cassette v) (closed es) refl (looks-idle _ v es (o .1))
+  looks-idle d t (position v p ∷ es) o = next-idle d (position v p) es (looks-idle _ v es (o .1))
+  looks-idle d t (cassette v ∷ es) o = next-idle d (cassette v) es (looks-idle _ v es (o .1))
 
   -- "replies, due times and deck are equal however many looks stand between"
   pub looks-alike : (d : Deck) (s t : ℕ) (es fs : List Event) → withoutLooks es ≡ withoutLooks fs

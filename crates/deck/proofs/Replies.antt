@@ -1,34 +1,18 @@
 -- How many replies one event gets.
-use mathlib.Core.Bool.{Bool, true, false, cond}
 use mathlib.Core.List.{List, [], _∷_, _++_}
 use mathlib.Core.Logic.{⊎-elim}
 use mathlib.Core.Path.{refl}
 use Prim.Native.Nat.{ℕ, _+_}
 use native.Mathlib.Omega.{arith}
-use lib.Dec.{leb}
-use lib.ListN.{length}
-use Rattle.execute.specs.Execute.{execute}
 use Rattle.execute.specs.Replies.{timeOut}
-use Rattle.deck.specs.Line.{Event, byte, look, position, cassette, timeOf, Deck, deck, Answer, silently, size, replied, taken}
-use Rattle.deck.specs.Line.{acted, says}
+use Rattle.deck.specs.Line.{Event, byte, look, position, cassette, timeOf, Deck, deck, taken, acted, says}
 use Rattle.deck.specs.Events.{nakAt, Few, none, one, two}
-use Rattle.deck.proofs.Steps.{look-shut, look-cases, byte-cases, taken-more, acted-byte, acted-other}
+use Rattle.deck.proofs.Steps.{look-shut, look-cases, byte-cases, taken-more, taken-cases, acted-byte, acted-other}
 use Rattle.deck.proofs.Steps.{answers-soon, answers-late}
 
 module _ (d : Deck) where
   taken-few : (e : Event) (block : List ℕ) (t : ℕ) → Few d e (taken d block t .replies)
-  unfolding taken
-  taken-few e block t = go (leb (size block) (length block))
-    where
-      full : Answer
-      full = replied d t (execute (d .settings) block)
-
-      more : Answer
-      more = silently (deck block t (d .free) (d .settings))
-
-      go : (x : Bool) → Few d e (cond x full more .replies)
-      go true = one _
-      go false = none
+  taken-few e block t = ⊎-elim (λ p. rw p (one _)) (λ p. rw p none) (taken-cases d block t)
 
   -- with no time-out before it
   soon : (e : Event) → Few d e (acted d e .replies)

@@ -6,13 +6,14 @@ use mathlib.Core.Path.{_≡_, refl, sym, ap, _∙_}
 use Prim.Native.Nat.{ℕ, zero, suc, _+_, _≤_, _<_}
 use native.Mathlib.Nat.{le-refl}
 use native.Mathlib.Omega.{arith}
-use borrow.Author.Tests.{le-leb, le-ltb, lt-leb, lt-ltb, ltb-false, ltb-true, ne-eqb}
-use lib.Dec.{ltb}
+use borrow.Author.Tests.{eq-eqb, le-leb, le-ltb, leb-false, leb-true, lt-leb, lt-ltb, ltb-false, ltb-true, ne-eqb}
+use lib.Dec.{leb, ltb}
 use lib.ListN.{length}
+use Rattle.settings.specs.declared.Settings.{Settings}
 use Rattle.execute.specs.Execute.{execute}
 use Rattle.execute.specs.Replies.{timeOut, opensQuiet}
 use Rattle.deck.specs.Line.{Event, byte, look, position, cassette, timeOf, Deck, deck, Reply, Answer, silently, freeAfter}
-use Rattle.deck.specs.Line.{voided, isOpen, looked, size, replied, taken, inQuiet, received, withSettings, acted}
+use Rattle.deck.specs.Line.{voided, isOpen, timedOut, looked, size, replied, taken, inQuiet, received, withSettings, acted}
 use Rattle.deck.specs.Line.{bothOf, answers, after, says, run, said}
 use Rattle.deck.specs.Events.{Gives, nakAt, tape, NoByte}
 
@@ -22,18 +23,24 @@ time-out-quiets = refl
 
 -- ---- the time-out
 
-pub look-shut : (d : Deck) (t : ℕ) → d .block ≡ [] → looked d t ≡ silently d
+-- by its test
+pub look-found : (d : Deck) (t : ℕ) → timedOut d t ≡ true → looked d t ≡ voided d timeOut (d .last + 10001)
 unfolding looked
-look-shut d t e = rw e
+look-found d t e = rw e
+
+pub look-nothing : (d : Deck) (t : ℕ) → timedOut d t ≡ false → looked d t ≡ silently d
+unfolding looked
+look-nothing d t e = rw e
+
+pub look-shut : (d : Deck) (t : ℕ) → d .block ≡ [] → looked d t ≡ silently d
+look-shut d t e = look-nothing d t (rw e)
 
 pub look-early : (d : Deck) (t : ℕ) → t ≤ d .last + 10000 → looked d t ≡ silently d
-unfolding looked
-look-early d t h = rw (le-ltb (d .last + 10000) t h, and-false)
+look-early d t h = look-nothing d t (rw (le-ltb (d .last + 10000) t h, and-false))
 
 pub look-late : (d : Deck) (t : ℕ) → isOpen (d .block) ≡ true → d .last + 10000 < t
     → looked d t ≡ voided d timeOut (d .last + 10001)
-unfolding looked
-look-late d t o h = rw (o, lt-ltb (d .last + 10000) t h)
+look-late d t o h = look-found d t (rw (o, lt-ltb (d .last + 10000) t h))
 
 pub look-cases : (d : Deck) (t : ℕ) → (looked d t ≡ silently d) ⊎ ((isOpen (d .block) ≡ true) × (d .last + 10000 < t))
 look-cases d t = go (d .block) refl (ltb (d .last + 10000) t) refl
@@ -70,9 +77,9 @@ pub byte-flagged : (d : Deck) (t b flags : ℕ) → d .free ≤ t → (flags ≡
 unfolding received
 byte-flagged d t b flags h f = rw (le-ltb t (d .free) h, ne-eqb flags 0 f)
 
-pub byte-clean : (d : Deck) (t b : ℕ) → d .free ≤ t → received d t b 0 ≡ taken d (d .block ++ b ∷ []) t
+pub byte-clean : (d : Deck) (t b flags : ℕ) → d .free ≤ t → flags ≡ 0 → received d t b flags ≡ taken d (d .block ++ b ∷ []) t
 unfolding received
-byte-clean d t b h = rw (le-ltb t (d .free) h)
+byte-clean d t b flags h f = rw (le-ltb t (d .free) h, eq-eqb flags 0 f)
 
 pub byte-cases : (d : Deck) (t b flags : ℕ)
     → (received d t b flags ≡ silently d)
@@ -85,7 +92,7 @@ byte-cases d t b flags = go flags (inQuiet d t) refl
         ⊎ (received d t b f ≡ taken d (d .block ++ b ∷ []) t)
         ⊎ ((f ≡ 0 → ⊥) × (received d t b f ≡ voided d f t))
     go f true q = inl (byte-dropped d t b f (ltb-true t (d .free) q))
-    go zero false q = inr (inl (byte-clean d t b (ltb-false t (d .free) q)))
+    go zero false q = inr (inl (byte-clean d t b 0 (ltb-false t (d .free) q) refl))
     go (suc n) false q =
         let f : suc n ≡ 0 → ⊥ = λ e. omega arith in
         inr (inr (f, byte-flagged d t b (suc n) (ltb-false t (d .free) q) f))
@@ -99,6 +106,23 @@ pub taken-more : (d : Deck) (block : List ℕ) (t : ℕ) → length block < size
     → taken d block t ≡ silently (deck block t (d .free) (d .settings))
 unfolding taken
 taken-more d block t h = rw (lt-leb (size block) (length block) h)
+
+pub taken-cases : (d : Deck) (block : List ℕ) (t : ℕ)
+    → (taken d block t ≡ replied d t (execute (d .settings) block))
+    ⊎ (taken d block t ≡ silently (deck block t (d .free) (d .settings)))
+taken-cases d block t = go (leb (size block) (length block)) refl
+  where
+    go : (x : Bool) → leb (size block) (length block) ≡ x
+        → (taken d block t ≡ replied d t (execute (d .settings) block))
+        ⊎ (taken d block t ≡ silently (deck block t (d .free) (d .settings)))
+    go true p = inl (taken-full d block t (leb-true (size block) (length block) p))
+    go false p = inr (taken-more d block t (leb-false (size block) (length block) p))
+
+-- of the deck, only its quiet and its settings count
+pub taken-from : (o p : List ℕ) (l m f : ℕ) (s : Settings) (block : List ℕ) (t : ℕ)
+    → taken (deck o l f s) block t ≡ taken (deck p m f s) block t
+unfolding taken
+taken-from o p l m f s block t = refl
 
 -- ---- an event, after the time-out
 
@@ -140,17 +164,24 @@ answers-unheard d e p h = answers-soon d e p (acted-unheard d e h)
 
 pub answers-clean : (d : Deck) (t b : ℕ) → looked d t ≡ silently d → d .free ≤ t
     → answers d (byte t b 0) ≡ taken d (d .block ++ b ∷ []) t
-answers-clean d t b p h = answers-soon d (byte t b 0) p (acted-byte d t b 0 ∙ byte-clean d t b h)
+answers-clean d t b p h = answers-soon d (byte t b 0) p (acted-byte d t b 0 ∙ byte-clean d t b 0 h refl)
 
 pub answers-flagged : (d : Deck) (t b flags : ℕ) → looked d t ≡ silently d → d .free ≤ t → (flags ≡ 0 → ⊥)
     → answers d (byte t b flags) ≡ voided d flags t
 answers-flagged d t b flags p h f =
     answers-soon d (byte t b flags) p (acted-byte d t b flags ∙ byte-flagged d t b flags h f)
 
+-- no byte: it acts on the deck that the time-out leaves
+pub answers-other : (d : Deck) (e : Event) → NoByte e
+    → let a = looked d (timeOf e) in
+    answers d e ≡ record { deck = withSettings (a .deck) (tape (a .deck .settings) e); replies = a .replies }
+answers-other d e n =
+    let a = looked d (timeOf e) in
+    answers-is d e {first = a} refl (acted-other (a .deck) e n)
+    ∙ ap (λ (r : List Reply). record { deck = withSettings (a .deck) (tape (a .deck .settings) e); replies = r }) (append-nil (a .replies))
+
 pub look-alone : (d : Deck) (t : ℕ) → answers d (look t) ≡ looked d t
-unfolding answers acted
-look-alone d t =
-    ap (λ (r : List Reply). record { deck = looked d t .deck; replies = r }) (append-nil (looked d t .replies))
+look-alone d t = answers-other d (look t) tt
 
 -- with a look before it
 pub look-first : (d : Deck) (u : ℕ) (e : Event) → u ≤ timeOf e
@@ -177,6 +208,10 @@ answers-late d e o h =
 
 -- ---- events in a row
 
+pub gives-none : (d : Deck) → Gives d [] [] d
+unfolding run said
+gives-none d = (refl, refl)
+
 pub gives-cons : (d : Deck) (e : Event) (es : List Event) {a : Answer} {replies : List Reply} {end : Deck} → answers d e ≡ a
     → Gives (a .deck) es replies end → Gives d (e ∷ es) (a .replies ++ replies) end
 unfolding run said
@@ -184,6 +219,12 @@ gives-cons d e es {a} p g = (
   ap (λ (x : Answer). x .replies ++ said (x .deck) es) p ∙ ap (λ (r : List Reply). a .replies ++ r) (g .0),
   ap (λ (x : Answer). run (x .deck) es) p ∙ g .1,
 )
+
+-- the same after two events that get the same
+pub gives-alike : (d : Deck) (e f : Event) (es fs : List Event) → answers d e ≡ answers d f
+    → Gives (after d f) es (said (after d f) fs) (run (after d f) fs) → Gives d (e ∷ es) (said d (f ∷ fs)) (run d (f ∷ fs))
+unfolding run said
+gives-alike d e f es fs p g = gives-cons d e es p g
 
 pub gives-one : (d : Deck) (e : Event) {a : Answer} → answers d e ≡ a → Gives d (e ∷ []) (a .replies) (a .deck)
 unfolding run said

@@ -7,8 +7,6 @@ use lib.Seq.{take-suc-set}
 use Rattle.deck.proofs.Deck.begin.Statement.{statement}
 use Rattle.deck.proofs.Deck.begin.Tie as tie
 
--- `Deck::begin` meets its contract: the byte is the first of the array, and alone counts.
-
 element-write-self : tie.Need-element-write-self
 element-write-self c = search needs
 

@@ -8,8 +8,6 @@ use Rattle.deck.proofs.Numbers.{in-range, refuses, takes}
 use Rattle.deck.proofs.Deck.byte.Statement.{statement}
 use Rattle.deck.proofs.Deck.byte.Tie as tie
 
--- `Deck::byte` meets its contract.
-
 refusal-requires : tie.Need-refusal-requires
 refusal-requires c κs = search needs
 

@@ -3,13 +3,11 @@ use borrow.Author.Needs.{needs}
 use Rattle.settings.specs.Settings.{loaded}
 use Rattle.deck.specs.Line.{cassette, looked}
 use Rattle.deck.specs.Calls.{view}
-use Rattle.deck.proofs.Found.{cassette-answers}
+use Rattle.deck.proofs.Steps.{answers-other}
 use Rattle.deck.proofs.Numbers.{in-range, refuses, takes}
 use Rattle.deck.proofs.Seen.{resettled}
 use Rattle.deck.proofs.Deck.cassette.Statement.{statement}
 use Rattle.deck.proofs.Deck.cassette.Tie as tie
-
--- `Deck::cassette` meets its contract: a look, and the cassette loaded.
 
 refusal-requires : tie.Need-refusal-requires
 refusal-requires c κs = search needs
@@ -48,7 +46,7 @@ returns-2 c =
     let l = q .looked in
     let r = c .with-settings in
     takes (a .self) (cassette (a .time)) (a .out .now) (n .result) (n .ensures) (r .result) _ (t .if1 .left)
-    (rw (cassette-answers (view (a .self)) (a .time))
+    (rw (answers-other (view (a .self)) (cassette (a .time)) tt)
     (resettled loaded (a .time) (looked (view (a .self)) (a .time)) (a .out .now) _ (l .result) (r .result)
     (l .ensures) (rw (c .before .load .ensures) at (r .ensures))))
 

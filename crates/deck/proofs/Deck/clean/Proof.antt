@@ -11,8 +11,6 @@ use Rattle.deck.proofs.Seen.{silent}
 use Rattle.deck.proofs.Deck.clean.Statement.{statement}
 use Rattle.deck.proofs.Deck.clean.Tie as tie
 
--- `Deck::clean` meets its contract: the byte goes behind those that count, and the first byte says the size.
-
 -- at most 17 bytes of the array count
 kept : (c : tie.Joined1) → c .if1 .at ≡ min (c .before .before .args .t1 .held) 17
 kept c =

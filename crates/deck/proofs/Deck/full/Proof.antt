@@ -15,8 +15,6 @@ use Rattle.deck.proofs.Seen.{same-call}
 use Rattle.deck.proofs.Deck.full.Statement.{statement}
 use Rattle.deck.proofs.Deck.full.Tie as tie
 
--- `Deck::full` meets its contract: the outcome of the block, in the deck and in the output.
-
 long : (c : tie.Start) → length (c .args .self .block) ≡ 18
 long c = simp length-map at (c .good .0 .1 .1 .1 .1 .1 .1 .0 .1 .0 .1)
 

@@ -1,13 +1,11 @@
 -- `Deck::heard` meets its contract: quiet, flags and clean bytes in the order of the definition.
 use borrow.Author.Needs.{needs}
 use Rattle.deck.specs.Calls.{view}
-use Rattle.deck.proofs.Found.{received-clean}
+use Rattle.deck.proofs.Steps.{byte-clean}
 use Rattle.deck.proofs.Steps.{byte-dropped, byte-flagged}
 use Rattle.deck.proofs.Seen.{silent}
 use Rattle.deck.proofs.Deck.heard.Statement.{statement}
 use Rattle.deck.proofs.Deck.heard.Tie as tie
-
--- `Deck::heard` meets its contract: quiet, flags and clean bytes in the order of the definition.
 
 said-requires : tie.Need-said-requires
 said-requires c κs = search needs
@@ -41,7 +39,7 @@ returns-3 : tie.Need-returns-3
 returns-3 c =
     let t = c .before .before .before .before in
     let a = t .before .before .before .before .args in
-    rw (received-clean (view (a .self)) (a .time) (a .content) (a .flags) (t .before .if1 .left) (t .if2 .left))
+    rw (byte-clean (view (a .self)) (a .time) (a .content) (a .flags) (t .before .if1 .left) (t .if2 .left))
     (c .before .before .clean .ensures)
 
 pub heard-spec : {M : Type 1} → statement M

@@ -16,8 +16,6 @@ use Rattle.deck.proofs.Seen.{same-call}
 use Rattle.deck.proofs.Deck.late.Statement.{statement}
 use Rattle.deck.proofs.Deck.late.Tie as tie
 
--- `Deck::late` meets its contract: the time-out NAK, and behind it what the byte does.
-
 -- the deck after the time-out is free when the definition says
 free : (c : tie.After-nak) → c .nak .result .deck .free ≡ missed (view (c .before .before .before .before .args .self)) .deck .free
 free c = ap (λ (x : Call). x .deck .free) (c .nak .ensures)

@@ -7,8 +7,6 @@ use Rattle.deck.proofs.Numbers.{in-range, refuses, takes}
 use Rattle.deck.proofs.Deck.look.Statement.{statement}
 use Rattle.deck.proofs.Deck.look.Tie as tie
 
--- `Deck::look` meets its contract.
-
 refusal-requires : tie.Need-refusal-requires
 refusal-requires c κs = search needs
 

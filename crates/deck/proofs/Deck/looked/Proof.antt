@@ -5,12 +5,11 @@ use native.Mathlib.Omega.{arith}
 use borrow.Author.Needs.{needs}
 use Rattle.deck.specs.Line.{timedOut}
 use Rattle.deck.specs.Calls.{view}
-use Rattle.deck.proofs.Late.{overdue, looked-late, looked-in-time}
+use Rattle.deck.proofs.Late.{overdue}
+use Rattle.deck.proofs.Steps.{look-found, look-nothing}
 use Rattle.deck.proofs.Seen.{silent}
 use Rattle.deck.proofs.Deck.looked.Statement.{statement}
 use Rattle.deck.proofs.Deck.looked.Tie as tie
-
--- `Deck::looked` meets its contract.
 
 late : (c : tie.Then1) → timedOut (view (c .before .before .before .args .self)) (c .before .before .before .args .time) ≡ true
 late c = sym (c .before .timed-out .ensures) ∙ c .if1 .taken
@@ -35,7 +34,7 @@ returns : tie.Need-returns
 returns c =
     let t = c .before .before .before .before .before in
     let a = t .before .before .before .args in
-    rw (looked-late (view (a .self)) (a .time) (late t)) (c .before .before .nak .ensures)
+    rw (look-found (view (a .self)) (a .time) (late t)) (c .before .before .nak .ensures)
 
 said-requires : tie.Need-said-requires
 said-requires c κs = search needs
@@ -44,7 +43,7 @@ returns-2 : tie.Need-returns-2
 returns-2 c =
     let t = c .before .before in
     let a = t .before .before .args in
-    rw (looked-in-time (view (a .self)) (a .time) (sym (t .timed-out .ensures) ∙ c .before .if1 .left))
+    rw (look-nothing (view (a .self)) (a .time) (sym (t .timed-out .ensures) ∙ c .before .if1 .left))
     (silent 0 (a .self) (c .said .result) (a .out .now) (c .said .ensures))
 
 pub looked-spec : {M : Type 1} → statement M

@@ -7,8 +7,6 @@ use Rattle.deck.proofs.Seen.{same-call}
 use Rattle.deck.proofs.Deck.nak.Statement.{statement}
 use Rattle.deck.proofs.Deck.nak.Tie as tie
 
--- `Deck::nak` meets its contract: what is written, and the deck without an open block.
-
 nak-requires : tie.Need-nak-requires
 nak-requires c κs = search needs
 

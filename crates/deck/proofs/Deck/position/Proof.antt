@@ -3,13 +3,11 @@ use borrow.Author.Needs.{needs}
 use Rattle.settings.specs.Settings.{withPosition}
 use Rattle.deck.specs.Line.{position, looked}
 use Rattle.deck.specs.Calls.{view}
-use Rattle.deck.proofs.Found.{position-answers}
+use Rattle.deck.proofs.Steps.{answers-other}
 use Rattle.deck.proofs.Numbers.{in-range, refuses, takes}
 use Rattle.deck.proofs.Seen.{resettled}
 use Rattle.deck.proofs.Deck.position.Statement.{statement}
 use Rattle.deck.proofs.Deck.position.Tie as tie
-
--- `Deck::position` meets its contract: a look, and the position set.
 
 refusal-requires : tie.Need-refusal-requires
 refusal-requires c κs = search needs
@@ -45,7 +43,7 @@ returns-2 c =
     let l = q .looked in
     let r = c .with-settings in
     takes (a .self) (position (a .time) (a .place)) (a .out .now) (n .result) (n .ensures) (r .result) _ (t .if1 .left)
-    (rw (position-answers (view (a .self)) (a .time) (a .place))
+    (rw (answers-other (view (a .self)) (position (a .time) (a .place)) tt)
     (resettled (withPosition (a .place)) (a .time) (looked (view (a .self)) (a .time)) (a .out .now) _ (l .result) (r .result)
     (l .ensures) (r .ensures)))
 

@@ -3,8 +3,6 @@ use borrow.Author.Needs.{needs}
 use Rattle.deck.proofs.Deck.power_on.Statement.{statement}
 use Rattle.deck.proofs.Deck.power_on.Tie as tie
 
--- `Deck::power_on` meets its contract.
-
 power-on-requires : tie.Need-power-on-requires
 power-on-requires c κs = search needs
 

@@ -10,8 +10,6 @@ use Rattle.deck.proofs.Late.{opened, past}
 use Rattle.deck.proofs.Deck.timed_out.Statement.{statement}
 use Rattle.deck.proofs.Deck.timed_out.Tie as tie
 
--- `Deck::timed_out` meets its contract: the tests of the code come to the one of the definition.
-
 returns : tie.Need-returns
 returns c = simp (c .if1 .taken)
 

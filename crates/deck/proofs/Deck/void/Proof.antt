@@ -4,8 +4,6 @@ use borrow.Author.Needs.{needs}
 use Rattle.deck.proofs.Deck.void.Statement.{statement}
 use Rattle.deck.proofs.Deck.void.Tie as tie
 
--- `Deck::void` meets its contract.
-
 opens-quiet-requires : tie.Need-opens-quiet-requires
 opens-quiet-requires c κs = search needs
 

@@ -4,8 +4,6 @@ use lib.Bits.{and-mask}
 use Rattle.deck.proofs.line.size.Statement.{statement}
 use Rattle.deck.proofs.line.size.Tie as tie
 
--- `line::size` meets its contract.
-
 cast-result : tie.Need-cast-result
 cast-result c = omega (arith, and-mask (c .args .first) 4)
 

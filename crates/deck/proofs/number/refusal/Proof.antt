@@ -10,8 +10,6 @@ use Rattle.timecode.specs.Time.{day}
 use Rattle.deck.proofs.number.refusal.Statement.{statement}
 use Rattle.deck.proofs.number.refusal.Tie as tie
 
--- `number::refusal` meets its contract: the tests of the code are those of the definition, in its order.
-
 -- past the first three tests the last two decide
 left : (c : tie.Else3) → (let a = c .before .before .before .args in
     refusal (a .room) (a .clock) (a .time) (a .flags) (a .place)

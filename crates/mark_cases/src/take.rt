@@ -1,0 +1,52 @@
+// Numbers and parts out of lent bytes and places.
+
+fn wide(b: u8) -> u32 {
+    b as u32
+}
+
+// The byte at `at`, and 0 past the end.
+fn byte(bytes: &[u8], at: usize) -> u8 {
+    if at < bytes.len() { bytes[at] } else { 0 }
+}
+
+// The number that the first four bytes hold, lowest byte first.
+pub fn four(bytes: &[u8]) -> u32 {
+    wide(byte(bytes, 0))
+        | wide(byte(bytes, 1)) << 8
+        | wide(byte(bytes, 2)) << 16
+        | wide(byte(bytes, 3)) << 24
+}
+
+// The place at `at`, and 0 past the end.
+pub fn place(table: &[u32], at: usize) -> u32 {
+    if at < table.len() { table[at] } else { 0 }
+}
+
+// What stands behind the first `count` bytes.
+pub fn rest(bytes: &[u8], count: usize) -> &[u8] {
+    if count < bytes.len() {
+        &bytes[count..]
+    } else {
+        &bytes[..0]
+    }
+}
+
+// The last `size` bytes of `space`, or all of it where it has fewer.
+pub fn last(space: &mut [u8], size: u32) -> &mut [u8] {
+    let n = size as usize;
+    if space.len() < n {
+        return space;
+    }
+    let from = space.len() - n;
+    &mut space[from..]
+}
+
+// The last `size` places of `table`, or all of it where it has fewer.
+pub fn last_places(table: &mut [u32], size: u32) -> &mut [u32] {
+    let n = size as usize;
+    if table.len() < n {
+        return table;
+    }
+    let from = table.len() - n;
+    &mut table[from..]
+}

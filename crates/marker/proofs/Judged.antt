@@ -1,0 +1,88 @@
+-- The loop over the entries: what is left of the record leads to the verdict on the whole.
+use Prim.Native.Nat.{ℕ, suc, _+_, _/_, _≤_, _<_}
+use mathlib.Core.Path.{_≡_, refl, sym, ap, _∙_}
+use mathlib.Core.Bool.{true, false, cond}
+use mathlib.Core.List.{List, [], _++_, append-nil}
+use native.Mathlib.Omega.{arith}
+use native.Mathlib.Numerals.{add-one}
+use borrow.Author.Tests.{eq-eqb, ne-eqb}
+use lib.ListN.{length, take, drop, getD, set, length-set, drop-of-length-le}
+use lib.Seq.{take-suc-set, drop-set-lt, drop-drop}
+use Rattle.deck.specs.Calls.{view}
+use Rattle.record.specs.declared.Entry.{Entry}
+use Rattle.record.specs.Entries.{keep}
+use Rattle.record.specs.Bytes.{entriesOf, noEntry}
+use Rattle.record.specs.Machine.{State, Outcome, goes, stops, begin, resting, verdict, follow, judgeFrom, judge}
+use Rattle.record.proofs.Bytes.{length-entries, entries-from}
+use Rattle.marker.specs.declared.Marker.{Marker}
+use Rattle.marker.specs.declared.Stepped.{Stepped}
+use Rattle.marker.specs.Steps.{awaited, state, outcome, Steps}
+
+-- after i entries, with `count` turn starts at the front of the table
+pub record Inv (bytes before table : List ℕ) (m : Marker) (count i : ℕ) : Type 0 where
+  pub within : i ≤ length bytes / 12
+  pub few : count ≤ i
+  pub size : length table ≡ length before
+  pub leads : judgeFrom (drop i (entriesOf bytes)) (state i (take count table) m) ≡ judge (entriesOf bytes)
+  pub rest : drop count table ≡ drop count before
+
+pub begins-so : (bytes before : List ℕ) (m : Marker) → state 0 [] m ≡ begin → Inv bytes before before m 0 0
+unfolding judge
+begins-so bytes before m p =
+    record { within = omega arith; few = omega arith; size = refl; leads = ap (judgeFrom (entriesOf bytes)) p; rest = refl }
+
+module _ (bytes before table : List ℕ) (m : Marker) (count i : ℕ) (v : Inv bytes before table m count i) where
+  abbrev es : List Entry
+  es = entriesOf bytes
+
+  abbrev s : State
+  s = state i (take count table) m
+
+  -- at the end
+  pub ended : length bytes / 12 ≤ i → (f : ℕ) → f ≡ cond (resting (view (m .deck)) (awaited (m .waits))) 0 26 → verdict f s ≡ judge es
+  unfolding judgeFrom
+  ended h f p =
+      let none : drop i es ≡ [] = drop-of-length-le es {i = i} (omega (arith, length-entries bytes)) in
+      ap (λ (x : ℕ). verdict x s) p ∙ sym (ap (λ (l : List Entry). judgeFrom l s) none) ∙ v .leads
+
+  module _ (h : i < length bytes / 12) (r : Stepped) (x : Steps m (getD es i noEntry) r) where
+    -- by the outcome of the next entry
+    walk : (o : Outcome) → outcome i (take count table) r ≡ o → follow o s (judgeFrom (drop (i + 1) es)) ≡ judge es
+    unfolding judgeFrom
+    walk o p =
+        ap (λ (y : Outcome). follow y s (judgeFrom (drop (i + 1) es))) (sym p ∙ x .steps i (take count table))
+        ∙ sym (ap (λ (l : List Entry). judgeFrom l s) (entries-from bytes i h))
+        ∙ v .leads
+
+    pub faulty : (r .fault ≡ 0 → ⊥) → verdict (r .fault) s ≡ judge es
+    faulty n = walk (stops (r .fault)) (rw (ne-eqb (r .fault) 0 n))
+
+    module _ (z : r .fault ≡ 0) where
+      onward : (starts : List ℕ) → take count table ++ keep (r .begins) i [] ≡ starts
+          → judgeFrom (drop (i + 1) es) (state (i + 1) starts (r .marker)) ≡ judge es
+      onward starts p =
+          ap (λ (l : List ℕ). judgeFrom (drop (i + 1) es) (state (i + 1) l (r .marker))) (sym p)
+          ∙ ap (λ (k : ℕ). judgeFrom (drop (i + 1) es) (state k (take count table ++ keep (r .begins) i []) (r .marker))) (add-one i)
+          ∙ walk (goes (state (suc i) (take count table ++ keep (r .begins) i []) (r .marker))) (rw (eq-eqb (r .fault) 0 z))
+
+      pub no-start : r .begins ≡ false → Inv bytes before table (r .marker) count (i + 1)
+      no-start b =
+          record {
+            within = omega arith;
+            few = omega (arith, v .few);
+            size = v .size;
+            leads = onward (take count table) (rw (b, append-nil));
+            rest = v .rest;
+          }
+
+      pub start : r .begins ≡ true → count < length table → Inv bytes before (set table count i) (r .marker) (count + 1) (i + 1)
+      start b c =
+          record {
+            within = omega arith;
+            few = omega (arith, v .few);
+            size = simp length-set (v .size);
+            leads = onward (take (count + 1) (set table count i)) (rw (b, add-one count, take-suc-set));
+            rest =
+                rw (drop-set-lt (count + 1) table count i (omega arith))
+                (sym (drop-drop 1 count table) ∙ ap (drop 1) (v .rest) ∙ drop-drop 1 count before);
+          }

@@ -1,0 +1,8 @@
+-- The laws that belong to no function.
+pub mod Forms
+pub mod Left
+pub mod Answered
+pub mod Tests
+pub mod Whole
+pub mod Judged
+pub mod Taken

@@ -1,0 +1,3 @@
+-- What the contracts of `marker` mean.
+pub mod Steps
+pub mod Marks

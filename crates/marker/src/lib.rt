@@ -1,0 +1,150 @@
+// The marker: reads a line record and finds its turns, or the first place that no sound record can get past.
+use deck::Deck;
+ghost use mathlib.Core.Path.{_≡_};
+ghost use mathlib.Core.Bool.{cond};
+ghost use mathlib.Core.List.{[]};
+ghost use Prim.Native.Nat.{_/_, _≤_};
+ghost use lib.ListN.{length};
+ghost use Rattle.record.specs.Machine.{begin, resting};
+ghost use Rattle.deck.specs.Calls.{view};
+ghost use Rattle.marker.specs.Steps.{awaited, state};
+ghost use Rattle.marker.specs.Marks.{refusal, Runs, Marks};
+
+mod form;
+mod reply;
+mod step;
+
+// The bytes of a reply that are still to come are those of `reply` from `from` to `end`; none is to come later than `latest`.
+pub struct Waits {
+    pub reply: [u8; 18],
+    pub from: usize,
+    pub end: usize,
+    pub latest: u64,
+}
+
+// What is known between two entries. The deck's clock is the time of the entry before.
+pub struct Marker {
+    pub deck: Deck,
+    pub waits: Waits,
+}
+
+// An entry's fault, 0 if it has none; whether it begins a turn; and the marker after it, the same where there is a fault.
+pub struct Stepped {
+    pub fault: u8,
+    pub begins: bool,
+    pub marker: Marker,
+}
+
+// The number; then the fault, 0 if the record is sound, its place, and how many turn starts stand at the front of the table.
+pub struct Marked {
+    pub no: u8,
+    pub fault: u8,
+    pub place: usize,
+    pub count: usize,
+}
+
+const ROOM: u8 = 1;
+
+const RECORD: u8 = 10;
+
+const MOST: usize = 65532;
+
+const STOPS: u8 = 26;
+
+impl Marker {
+    // Before the first entry.
+    fn start() -> Marker
+        ensures { λ r. ⌜ state 0 [] r ≡ begin ⌝ }
+    {
+        Marker {
+            deck: Deck::power_on(),
+            waits: Waits {
+                reply: [0u8; 18],
+                from: 0,
+                end: 0,
+                latest: 0,
+            },
+        }
+    }
+
+    // The fault of a record that ends here, 0 if it may: no block is open and nothing is awaited.
+    fn ends(self) -> u8
+        ensures { λ r. ⌜ r ≡ cond (resting (view (self .deck)) (awaited (self .waits))) 0 26 ⌝ }
+    {
+        let deck = self.deck;
+        if deck.held != 0 {
+            return STOPS;
+        }
+        let waits = self.waits;
+        if waits.any() {
+            return STOPS;
+        }
+        0
+    }
+}
+
+// The number that refuses a record of so many bytes with so many places in the table.
+fn refusal(size: usize, room: usize) -> u8
+    ensures { λ r. ⌜ r ≡ refusal size room ⌝ }
+{
+    if size % 12 != 0 {
+        return RECORD;
+    }
+    if MOST < size {
+        return RECORD;
+    }
+    if room < size / 12 {
+        return ROOM;
+    }
+    0
+}
+
+// The entries one after the other, to the first fault or the end.
+fn run(bytes: &[u8], table: &mut [u32]) -> Marked
+    requires { ⌜ (length (now bytes) ≤ 65532) × (length (now bytes) / 12 ≤ length (now table)) ⌝ }
+    ensures { λ r. ⌜ Runs (now (bytes .entry)) (now (table .entry)) r (now (table .exit)) ⌝ }
+{
+    let n = bytes.len() / 12;
+    let mut marker = Marker::start();
+    let mut count: usize = 0;
+    let mut i: usize = 0;
+    while i < n {
+        let e = record::read(bytes, i);
+        let r = marker.step(e);
+        if r.fault != 0 {
+            return Marked {
+                no: 0,
+                fault: r.fault,
+                place: i,
+                count: count,
+            };
+        }
+        marker = r.marker;
+        if r.begins {
+            table[count] = i as u32;
+            count += 1;
+        }
+        i += 1;
+    }
+    Marked {
+        no: 0,
+        fault: marker.ends(),
+        place: i,
+        count: count,
+    }
+}
+
+pub fn mark(bytes: &[u8], table: &mut [u32]) -> Marked
+    ensures { λ r. ⌜ Marks (now (bytes .entry)) (now (table .entry)) r (now (table .exit)) ⌝ }
+{
+    let no = refusal(bytes.len(), table.len());
+    if no != 0 {
+        return Marked {
+            no: no,
+            fault: 0,
+            place: 0,
+            count: 0,
+        };
+    }
+    run(bytes, table)
+}

@@ -1,0 +1,22 @@
+-- The turn theorem: the automaton that reads a record, against the turn rules. From the rules to the automaton: Coming to Turned;
+-- back: Pieces to Sounds; further entries: Sane, Extends; the fault numbers: Awaiting, Faults; the whole: Walk, Theorem.
+pub mod Handed
+pub mod Lists
+pub mod Readings
+pub mod Opening
+pub mod Coming
+pub mod Ran
+pub mod Accepts
+pub mod Turned
+pub mod Pieces
+pub mod Cuts
+pub mod Sounds
+pub mod Sane
+pub mod Extends
+pub mod Awaiting
+pub mod Faults
+pub mod Walk
+pub mod Theorem
+-- entries as bytes
+pub mod Bytes
+pub mod Examples

@@ -1,0 +1,88 @@
+-- `record::write` meets its contract: the tests of the code are those of the definition, and past them each field is put.
+use mathlib.Core.Path.{_∙_}
+use native.Mathlib.Omega.{arith}
+use borrow.Author.Tests.{lt-ltb, le-ltb}
+use lib.ListN.{length-set}
+use borrow.Author.Needs.{needs}
+use Rattle.record.specs.Bytes.{writeNo, written, writtenOut}
+use Rattle.record.proofs.Bytes.{put-entry}
+use Rattle.record.proofs.write.Statement.{statement}
+use Rattle.record.proofs.write.Tie as tie
+
+returns : tie.Need-returns
+unfolding writeNo written writtenOut
+returns c = let e = lt-ltb _ _ (c .if1 .taken) in (simp e, simp e)
+
+returns-2 : tie.Need-returns-2
+unfolding writeNo written writtenOut
+returns-2 c =
+    let e = le-ltb _ _ (c .before .before .if1 .left) in
+    let f = lt-ltb _ _ (c .if2 .taken) in
+    (simp (e, f), simp (e, f))
+
+slice-write-out : tie.Need-slice-write-out
+slice-write-out c = search needs
+
+slice-write-out-2 : tie.Need-slice-write-out-2
+slice-write-out-2 c = simp length-set (omega arith)
+
+cast-fill : tie.Need-cast-fill
+cast-fill c = search needs
+
+sub-fill : tie.Need-sub-fill
+sub-fill c = search needs
+
+part-fill-start : tie.Need-part-fill-start
+part-fill-start c = search needs
+
+part-fill-end : tie.Need-part-fill-end
+part-fill-end c = simp length-set (omega arith)
+
+fill-requires : tie.Need-fill-requires
+fill-requires c κs = search needs
+
+sub-fill-2 : tie.Need-sub-fill-2
+sub-fill-2 c = search needs
+
+part-fill-start-2 : tie.Need-part-fill-start-2
+part-fill-start-2 c = search needs
+
+part-fill-end-2 : tie.Need-part-fill-end-2
+part-fill-end-2 c = rw (c .before .out .given .1) (simp length-set (omega arith))
+
+fill-requires-2 : tie.Need-fill-requires-2
+fill-requires-2 c κs = search needs
+
+same-length : tie.Need-same-length
+same-length c = c .before .out2 .given .1 ∙ c .before .before .before .before .before .out .given .1 ∙ simp length-set
+
+returns-3 : tie.Need-returns-3
+unfolding writeNo written writtenOut
+returns-3 c =
+    let f₂ = c .before .before .fill2 in
+    let f₁ = c .before .before .before .before .before .before .fill in
+    let k = c .before .before .before .before .before .before .before .before .before in
+    let a = k .before .before .before .before .args in
+    let e = le-ltb _ _ (k .before .before .if1 .left) in
+    let f = le-ltb _ _ (k .if2 .left) in
+    (simp (e, f), simp (e, f) (put-entry (a .entry) _ _ (a .out .now) (omega arith) (f₁ .ensures) (f₂ .ensures)))
+
+pub write-spec : {M : Type 1} → statement M
+write-spec =
+    tie.close
+    (tie.spec
+    returns
+    returns-2
+    slice-write-out
+    slice-write-out-2
+    cast-fill
+    sub-fill
+    part-fill-start
+    part-fill-end
+    fill-requires
+    sub-fill-2
+    part-fill-start-2
+    part-fill-end-2
+    fill-requires-2
+    same-length
+    returns-3)

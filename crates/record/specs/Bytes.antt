@@ -1,0 +1,55 @@
+-- Document 01, "Line record and turns": entries as bytes, and the calls that read and write them.
+use Prim.Native.Nat.{ℕ, zero, suc, _+_, _*_, _/_, _%_}
+use mathlib.Core.Bool.{cond}
+use mathlib.Core.List.{List, [], _∷_, _++_}
+use lib.Dec.{eqb, ltb}
+use lib.ListN.{length, take, drop, getD}
+use Rattle.record.specs.declared.Entry.{Entry}
+use Rattle.record.specs.declared.Written.{Written}
+use Rattle.record.specs.Entries.{entry}
+
+-- "lowest byte first"
+abbrev pub lowFirst : List ℕ → ℕ
+lowFirst [] = 0
+lowFirst (b ∷ bytes) = b + 256 * lowFirst bytes
+
+-- a number as so many bytes
+unfoldable pub lowBytes : ℕ → ℕ → List ℕ
+lowBytes zero n = []
+lowBytes (suc k) n = n % 256 ∷ lowBytes k (n / 256)
+
+-- ---- "Entries are 12 bytes, no header: kind .., flags .., content in four bytes, time in six"
+
+-- the entry of the first 12 bytes; missing ones count as 0
+unfoldable pub entryOf : List ℕ → Entry
+entryOf b = entry (getD b 0 0) (getD b 1 0) (lowFirst (take 4 (drop 2 b))) (lowFirst (take 6 (drop 6 b)))
+
+unfoldable pub bytesOf : Entry → List ℕ
+bytesOf e = e .kind ∷ e .flags ∷ lowBytes 4 (e .content) ++ lowBytes 6 (e .time)
+
+-- the first n entries
+unfoldable pub firstEntries : ℕ → List ℕ → List Entry
+firstEntries zero b = []
+firstEntries (suc n) b = entryOf b ∷ firstEntries n (drop 12 b)
+
+-- the entries of a record
+unfoldable pub entriesOf : List ℕ → List Entry
+entriesOf b = firstEntries (length b / 12) b
+
+-- what is read where a record has no entry
+abbrev pub noEntry : Entry
+noEntry = entry 0 0 0 0
+
+-- ---- the writer
+
+-- 1 ROOM: "lent output too short"; 2 LATE: "time over 281,474,976,710,655"
+unfoldable pub writeNo : Entry → List ℕ → ℕ
+writeNo e out = cond (ltb (length out) 12) 1 (cond (ltb 281_474_976_710_655 (e .time)) 2 0)
+
+-- the number and how many bytes were written, 0 for a refusal
+unfoldable pub written : Entry → List ℕ → Written
+written e out = record { no = writeNo e out; len = cond (eqb (writeNo e out) 0) 12 0 }
+
+-- what the output holds afterwards: the entry at its front, the rest untouched; a refusal changes nothing
+unfoldable pub writtenOut : Entry → List ℕ → List ℕ
+writtenOut e out = cond (eqb (writeNo e out) 0) (bytesOf e ++ drop 12 out) out
