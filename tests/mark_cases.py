@@ -99,6 +99,7 @@ class Line:
         return self.send(content, wait).reply()
 
     def quiet_end(self):
+        """Past the quiet, if there is one."""
         return self.look(max(self.time, self.deck.quiet.stop))
 
 
@@ -241,8 +242,8 @@ def malformed_cases():
             line = Line()
             state(line)
             case(line.put(*malformed, wait=[0, -line.time, 30_000][at % 3]).turn().entries)
-    for flags in range(0, 256, 16):
-        case(finished(Line().send(b"\x20", flags=flags & 0x70).entries))
+    for flags in range(0, 0x80, 16):
+        case(finished(Line().send(b"\x20", flags=flags).entries))
     for flags in range(256):
         case([Entry(CONTROLLER, flags, flags, flags)])
     for kind, content in [(CONTROLLER, 255), (DECK, 255), (POSITION, 0), (POSITION, DAY - 1), (CASSETTE, 0)]:
@@ -445,12 +446,12 @@ def make():
 
 
 def short_records():
-    """For the comparison in tests/marks.py: every record above of at most 24 whole entries, and further ones."""
+    """For the comparison in tests/marks.py: every record above of at most 16 whole entries, and further ones."""
     make()
     at = 0
     while at < len(stdin):
         begin, at = at + 8, at + 8 + int.from_bytes(stdin[at:at + 4], "little")
-        if (at - begin) % 12 == 0 and at - begin <= 24 * 12:
+        if (at - begin) % 12 == 0 and at - begin <= 16 * 12:
             yield entries_of(stdin[begin:at])
     for _ in range(2_000):
         yield scribbled()

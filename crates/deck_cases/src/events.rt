@@ -21,13 +21,13 @@ fn hand_and_print(deck: Deck, letter: u8, time: u64, args: &[u8], out: &mut [u8]
 }
 
 // Lends an output of `room` bytes.
-pub fn event(deck: Deck, letter: u8, room: u8, time: u64, args: &[u8]) -> Deck {
+pub(super) fn event(deck: Deck, letter: u8, room: u8, time: u64, args: &[u8]) -> Deck {
     let mut space = [show::FILL; 64];
     hand_and_print(deck, letter, time, args, take::last(&mut space, room))
 }
 
 // A run of bytes. The arguments have four bytes for each: in two by how much it is later than the one before, its flags, its content.
-pub fn bytes(deck: Deck, room: u8, time: u64, args: &[u8]) -> Deck {
+pub(super) fn bytes(deck: Deck, room: u8, time: u64, args: &[u8]) -> Deck {
     let mut d = deck;
     let mut t = time;
     let mut i: usize = 0;

@@ -71,7 +71,7 @@ fn untouched(list: &[u8]) -> bool {
     true
 }
 
-pub fn answer(a: Answer, out: &[u8]) {
+pub(super) fn answer(a: Answer, out: &[u8]) {
     let first = a.first;
     let second = a.second;
     if a.no != 0 {
@@ -110,7 +110,7 @@ fn distance(v: i32) -> u64 {
 }
 
 // What the rules settle of a deck: clock, open block, status bytes, position, In, Out, speed.
-pub fn state(d: Deck) {
+pub(super) fn state(d: Deck) {
     let block = d.block;
     let settings = d.settings;
     let status = settings.status();

@@ -2,13 +2,13 @@
 use crate::show;
 use crate::take;
 
-pub fn sum(args: &[u8]) {
+pub(super) fn sum(args: &[u8]) {
     show::call_bytes(b"sum", args);
     show::byte(block::sum(args));
 }
 
 // Both functions of the reader.
-pub fn read(args: &[u8]) {
+pub(super) fn read(args: &[u8]) {
     show::call_bytes(b"read", args);
     let r = block::fields(args);
     show::small(r.no);
@@ -19,7 +19,7 @@ pub fn read(args: &[u8]) {
 }
 
 // Arguments: group, command, room, data.
-pub fn write(args: &[u8]) {
+pub(super) fn write(args: &[u8]) {
     let group = take::byte(args, 0);
     let command = take::byte(args, 1);
     let room = take::byte(args, 2);

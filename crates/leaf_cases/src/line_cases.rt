@@ -2,7 +2,7 @@
 use crate::show;
 use crate::take;
 
-pub fn receive(args: &[u8]) {
+pub(super) fn receive(args: &[u8]) {
     let word = take::number(args);
     show::text(b"receive");
     show::hex(word as u64, 3);

@@ -3,7 +3,7 @@ use crate::show;
 use crate::take;
 
 // Arguments: the speed byte, and 1 for reverse.
-pub fn speed(args: &[u8]) {
+pub(super) fn speed(args: &[u8]) {
     let n = take::byte(args, 0);
     let reverse = take::byte(args, 1);
     show::text(b"speed");

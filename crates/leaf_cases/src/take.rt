@@ -5,12 +5,12 @@ fn wide(b: u8) -> u32 {
 }
 
 // The byte at `at`, and 0 past the end.
-pub fn byte(args: &[u8], at: usize) -> u8 {
+pub(super) fn byte(args: &[u8], at: usize) -> u8 {
     if at < args.len() { args[at] } else { 0 }
 }
 
 // The number that the first four bytes hold, lowest byte first.
-pub fn number(args: &[u8]) -> u32 {
+pub(super) fn number(args: &[u8]) -> u32 {
     wide(byte(args, 0))
         | wide(byte(args, 1)) << 8
         | wide(byte(args, 2)) << 16
@@ -18,7 +18,7 @@ pub fn number(args: &[u8]) -> u32 {
 }
 
 // What stands behind the first `count` bytes.
-pub fn rest(args: &[u8], count: usize) -> &[u8] {
+pub(super) fn rest(args: &[u8], count: usize) -> &[u8] {
     if count < args.len() {
         &args[count..]
     } else {
@@ -27,7 +27,7 @@ pub fn rest(args: &[u8], count: usize) -> &[u8] {
 }
 
 // The last `size` bytes of `space`, or all of it where it has fewer.
-pub fn last(space: &mut [u8], size: u8) -> &mut [u8] {
+pub(super) fn last(space: &mut [u8], size: u8) -> &mut [u8] {
     let n = size as usize;
     if space.len() < n {
         return space;

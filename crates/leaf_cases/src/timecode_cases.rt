@@ -2,12 +2,12 @@
 use crate::show;
 use crate::take;
 
-pub fn position(args: &[u8]) {
+pub(super) fn position(args: &[u8]) {
     show::call_bytes(b"position", args);
     placed(timecode::position(args));
 }
 
-pub fn time(args: &[u8]) {
+pub(super) fn time(args: &[u8]) {
     let place = take::number(args);
     show::call_number(b"time", place);
     let r = timecode::time(place);
@@ -16,13 +16,13 @@ pub fn time(args: &[u8]) {
     show::bytes(&bytes);
 }
 
-pub fn frame_on(args: &[u8]) {
+pub(super) fn frame_on(args: &[u8]) {
     let place = take::number(args);
     show::call_number(b"frame_on", place);
     placed(timecode::frame_on(place));
 }
 
-pub fn frame_back(args: &[u8]) {
+pub(super) fn frame_back(args: &[u8]) {
     let place = take::number(args);
     show::call_number(b"frame_back", place);
     placed(timecode::frame_back(place));

@@ -68,7 +68,7 @@ fn untouched(table: &[u32], from: usize) -> bool {
 }
 
 // A refusal has no verdict and no turns, and leaves the whole table alone.
-pub fn marked(m: Marked, table: &[u32]) {
+pub(super) fn marked(m: Marked, table: &[u32]) {
     if m.no != 0 {
         refusal(m.no);
         behind(table, 0);

@@ -10,7 +10,7 @@ fn byte(bytes: &[u8], at: usize) -> u8 {
 }
 
 // The number that the first four bytes hold, lowest byte first.
-pub fn four(bytes: &[u8]) -> u32 {
+pub(super) fn four(bytes: &[u8]) -> u32 {
     wide(byte(bytes, 0))
         | wide(byte(bytes, 1)) << 8
         | wide(byte(bytes, 2)) << 16
@@ -18,12 +18,12 @@ pub fn four(bytes: &[u8]) -> u32 {
 }
 
 // The place at `at`, and 0 past the end.
-pub fn place(table: &[u32], at: usize) -> u32 {
+pub(super) fn place(table: &[u32], at: usize) -> u32 {
     if at < table.len() { table[at] } else { 0 }
 }
 
 // What stands behind the first `count` bytes.
-pub fn rest(bytes: &[u8], count: usize) -> &[u8] {
+pub(super) fn rest(bytes: &[u8], count: usize) -> &[u8] {
     if count < bytes.len() {
         &bytes[count..]
     } else {
@@ -32,7 +32,7 @@ pub fn rest(bytes: &[u8], count: usize) -> &[u8] {
 }
 
 // The last `size` bytes of `space`, or all of it where it has fewer.
-pub fn last(space: &mut [u8], size: u32) -> &mut [u8] {
+pub(super) fn last(space: &mut [u8], size: u32) -> &mut [u8] {
     let n = size as usize;
     if space.len() < n {
         return space;
@@ -42,7 +42,7 @@ pub fn last(space: &mut [u8], size: u32) -> &mut [u8] {
 }
 
 // The last `size` places of `table`, or all of it where it has fewer.
-pub fn last_places(table: &mut [u32], size: u32) -> &mut [u32] {
+pub(super) fn last_places(table: &mut [u32], size: u32) -> &mut [u32] {
     let n = size as usize;
     if table.len() < n {
         return table;

@@ -50,7 +50,9 @@ same-length c = search needs
 returns : tie.Need-returns
 returns c =
     let a = c .before .before .before .before .before .before .before .before .args in
-    as-shown (a .out .now) (carry-kind (a .s) (a .«data» .now) _ _ (c .before .before .before .before .enum-told .given .1) ∙ carry-undefined (a .s) (a .«data» .now)) (c .before .before .refuse .ensures)
+    as-shown (a .out .now)
+    (carry-kind (a .s) (a .«data» .now) _ _ (c .before .before .before .before .enum-told .given .1) ∙ carry-undefined (a .s) (a .«data» .now))
+    (c .before .before .refuse .ensures)
 
 same-length-2 : tie.Need-same-length-2
 same-length-2 c = search needs
@@ -58,7 +60,9 @@ same-length-2 c = search needs
 returns-2 : tie.Need-returns-2
 returns-2 c =
     let a = c .before .before .before .before .before .before .before .before .before .args in
-    as-shown (a .out .now) (carry-kind (a .s) (a .«data» .now) _ _ (c .before .before .before .before .before .kind .given .1)) (c .before .before .acknowledge .ensures)
+    as-shown (a .out .now)
+    (carry-kind (a .s) (a .«data» .now) _ _ (c .before .before .before .before .before .kind .given .1))
+    (c .before .before .acknowledge .ensures)
 
 same-length-3 : tie.Need-same-length-3
 same-length-3 c = search needs
@@ -66,7 +70,9 @@ same-length-3 c = search needs
 returns-3 : tie.Need-returns-3
 returns-3 c =
     let a = c .before .before .before .before .before .before .before .before .before .args in
-    as-shown (a .out .now) (carry-kind (a .s) (a .«data» .now) _ _ (c .before .before .before .before .before .enum-told2 .given .1) ∙ carry-device (a .s) (a .«data» .now)) (c .before .before .answer .ensures)
+    as-shown (a .out .now)
+    (carry-kind (a .s) (a .«data» .now) _ _ (c .before .before .before .before .before .enum-told2 .given .1) ∙ carry-device (a .s) (a .«data» .now))
+    (c .before .before .answer .ensures)
 
 same-length-4 : tie.Need-same-length-4
 same-length-4 c = search needs
@@ -74,7 +80,9 @@ same-length-4 c = search needs
 returns-4 : tie.Need-returns-4
 returns-4 c =
     let a = c .before .before .before .before .before .before .before .before .before .args in
-    as-shown (a .out .now) (carry-kind (a .s) (a .«data» .now) _ _ (c .before .before .before .before .before .kind2 .given .1) ∙ carry-point (a .s) (a .«data» .now) _) (c .before .before .point-time .ensures)
+    as-shown (a .out .now)
+    (carry-kind (a .s) (a .«data» .now) _ _ (c .before .before .before .before .before .kind2 .given .1) ∙ carry-point (a .s) (a .«data» .now) _)
+    (c .before .before .point-time .ensures)
 
 same-length-5 : tie.Need-same-length-5
 same-length-5 c = search needs
@@ -82,7 +90,9 @@ same-length-5 c = search needs
 returns-5 : tie.Need-returns-5
 returns-5 c =
     let a = c .before .before .before .before .before .before .before .before .args in
-    as-shown (a .out .now) (carry-kind (a .s) (a .«data» .now) _ _ (c .before .before .before .before .enum-told3 .given .1)) (c .before .before .tape-time .ensures)
+    as-shown (a .out .now)
+    (carry-kind (a .s) (a .«data» .now) _ _ (c .before .before .before .before .enum-told3 .given .1))
+    (c .before .before .tape-time .ensures)
 
 same-length-6 : tie.Need-same-length-6
 same-length-6 c = search needs
@@ -90,7 +100,9 @@ same-length-6 c = search needs
 returns-6 : tie.Need-returns-6
 returns-6 c =
     let a = c .before .before .before .before .before .before .before .before .args in
-    as-shown (a .out .now) (carry-kind (a .s) (a .«data» .now) _ _ (c .before .before .before .before .enum-told4 .given .1)) (c .before .before .status .ensures)
+    as-shown (a .out .now)
+    (carry-kind (a .s) (a .«data» .now) _ _ (c .before .before .before .before .enum-told4 .given .1))
+    (c .before .before .status .ensures)
 
 pub carry-spec : {M : Type 1} → statement M
 carry-spec =

@@ -67,7 +67,9 @@ returns-2 c =
     let n = k .first .result in
     as-shown (a .out .now)
     (status-read (a .s) (a .«data» .now) n (k .first .ensures) (c .before .before .before .before .before .status .result)
-    (c .before .before .before .before .before .before .before .if1 .left) (ltb-false 13 n (c .before .before .before .before .before .before .if2 .left)) (c .before .before .before .before .before .status .ensures))
+    (c .before .before .before .before .before .before .before .if1 .left)
+    (ltb-false 13 n (c .before .before .before .before .before .before .if2 .left))
+    (c .before .before .before .before .before .status .ensures))
     (c .before .before .answer .ensures)
 
 pub status-spec : {M : Type 1} → statement M

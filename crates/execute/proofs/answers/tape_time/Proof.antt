@@ -47,7 +47,9 @@ returns-2 c =
     ⊎-elim (λ w. rw (eq-eqb _ _ (w .0 .taken)) (w .1)) (λ w. rw (ne-eqb _ _ (w .0 .left)) (w .1)) (j .if3 .came) in
     as-shown (a .out .now)
     (time-read (a .s) (a .«data» .now) n (k .first .ensures) (j .if3 .code) (j .before .time .result)
-    (c .before .before .before .before .before .before .before .before .before .before .if1 .left) (ltb-false 4 n (c .before .before .before .before .before .before .before .before .before .if2 .left)) code (j .before .time .ensures))
+    (c .before .before .before .before .before .before .before .before .before .before .if1 .left)
+    (ltb-false 4 n (c .before .before .before .before .before .before .before .before .before .if2 .left))
+    code (j .before .time .ensures))
     (c .before .before .answer .ensures)
 
 pub tape-time-spec : {M : Type 1} → statement M

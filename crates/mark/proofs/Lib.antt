@@ -1,0 +1,2 @@
+-- The laws of `mark`.
+pub mod Counts

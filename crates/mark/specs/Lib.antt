@@ -1,0 +1,2 @@
+-- What the contracts of `mark` mean.
+pub mod Answers

@@ -1,0 +1,32 @@
+// Reads a line record from standard input and prints its verdict and its turns.
+use libc::STDERR_FILENO;
+use libc::STDIN_FILENO;
+use libc::STDOUT_FILENO;
+ghost use Prim.Native.Nat.{_≤_};
+ghost use lib.ListN.{length, take};
+ghost use Rattle.io.specs.Counts.{Counts};
+ghost use Rattle.mark.specs.Answers.{Answers};
+
+// What is printed for these bytes, at the front of the output; returns its length. The table has a place for every entry.
+fn answer(bytes: &[u8], out: &mut [u8]) -> usize
+    requires { ⌜ 87440 ≤ length (now out) ⌝ }
+    ensures { λ r. ⌜ Counts r (now (out .exit)) ⌝ }
+    ensures { λ r. ⌜ Answers (now (bytes .entry)) (take r (now (out .exit))) ⌝ }
+{
+    let mut table = [0u32; 5461];
+    let marked = marker::mark(bytes, &mut table);
+    let count = marked.count;
+    let written = report::text(marked, &table[..count], out);
+    written.len
+}
+
+// Of a record that is longer than the buffer 65,536 bytes are read: too many, so it is refused all the same.
+fn main() {
+    let mut buf = io::large_buffer();
+    let n = io::read_full(STDIN_FILENO, &mut buf);
+    let mut out = [0u8; 87440];
+    let len = answer(&buf[..n], &mut out);
+    if !io::write_all(STDOUT_FILENO, &out[..len]) {
+        io::write_all(STDERR_FILENO, b"mark: not all could be written\n");
+    }
+}

@@ -1,0 +1,35 @@
+-- `report::text` meets its contract.
+use mathlib.Core.Path.{_≡_, sym, _∙_}
+use native.Mathlib.Omega.{arith}
+use borrow.Author.Tests.{ltb-false}
+use lib.ListN.{length}
+use Rattle.report.specs.Text.{textOf, written, writtenOut}
+use Rattle.report.proofs.Putting.{whole}
+use borrow.Author.Needs.{needs}
+use Rattle.report.proofs.text.Statement.{statement}
+use Rattle.report.proofs.text.Tie as tie
+
+short-requires : tie.Need-short-requires
+short-requires c κs = search needs
+
+returns : tie.Need-returns
+unfolding written writtenOut
+returns c = let e = sym (c .before .short .ensures) ∙ c .if1 .taken in (simp e, simp e)
+
+put-text-requires : tie.Need-put-text-requires
+put-text-requires c κs = ltb-false _ _ (sym (c .before .before .short .ensures) ∙ c .before .if1 .left)
+
+same-length : tie.Need-same-length
+same-length c = search needs
+
+returns-2 : tie.Need-returns-2
+unfolding written writtenOut
+returns-2 c =
+    let a = c .before .before .before .before .before .before .before .before .args in
+    let e = sym (c .before .before .before .before .before .short .ensures) ∙ c .before .before .before .before .if1 .left in
+    let p = c .before .before .put-text in
+    let n : p .result ≡ length (textOf (a .marked) (a .starts .now)) = omega (arith, p .ensures .ends) in
+    (rw (e, n), rw e (whole (p .ensures)))
+
+pub text-spec : {M : Type 1} → statement M
+text-spec = tie.close (tie.spec short-requires returns put-text-requires same-length returns-2)

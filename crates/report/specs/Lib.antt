@@ -1,0 +1,3 @@
+-- What the contracts of `report` mean.
+pub mod Text
+pub mod Puts
