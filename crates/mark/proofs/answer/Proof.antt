@@ -34,10 +34,11 @@ returns : tie.Need-returns
 returns c =
     let m = c .before .before .before .before .before .before .mark in
     let t = c .before .before .text in
-    let a = c .before .before .before .before .before .before .before .before .before .before .args in
+    let s = c .before .before .before .before .before .before .before .before .before .before in
+    let a = s .args in
     let starts = take (m .result .count) (m .last .1 .0) in
     let few : m .result .count ≤ 5461 = rw (length-replicate {A = ℕ} 5461 0) at (counted (m .ensures)) in
-    let room : roomFor starts ≤ length (a .out .now) = omega (arith, few, length-take (m .result .count) (m .last .1 .0), c .before .before .before .before .before .before .before .before .before .before .pre) in
+    let room : roomFor starts ≤ length (a .out .now) = omega (arith, few, length-take (m .result .count) (m .last .1 .0), s .pre) in
     let n : t .result .len ≡ length (textOf (m .result) starts) = rw (t .ensures .0) (long (m .result) starts (a .out .now) room) in
     let e : take (t .result .len) (t .last .1 .1 .0) ≡ textOf (m .result) starts =
     rw (t .ensures .0, t .ensures .1) (told (m .result) starts (a .out .now) room) in

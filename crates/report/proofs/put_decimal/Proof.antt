@@ -21,7 +21,8 @@ slice-aggregate-put c = search needs
 put-requires : tie.Need-put-requires
 put-requires c κs =
     let d = c .before .before .decimal in
-    let most : d .result ≤ 20 = fewest 19 (d .result) (c .before .before .before .before .before .args .n) (omega arith) (d .ensures .1 .0) in
+    let n = c .before .before .before .before .before .args .n in
+    let most : d .result ≤ 20 = fewest 19 (d .result) n (omega arith) (d .ensures .1 .0) in
     omega (arith, most, d .ensures .0 .1)
 
 same-length : tie.Need-same-length

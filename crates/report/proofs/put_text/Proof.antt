@@ -35,7 +35,8 @@ returns-2 : tie.Need-returns-2
 unfolding textOf
 returns-2 c =
     let v = c .before .before .before .before .before .before .put-verdict .ensures .0 in
-    rw (eq-eqb _ _ (c .before .before .before .before .before .before .before .before .if1 .left)) (joined v (c .before .before .put-turns .ensures))
+    let taken = c .before .before .before .before .before .before .before .before .if1 .left in
+    rw (eq-eqb _ _ taken) (joined v (c .before .before .put-turns .ensures))
 
 pub put-text-spec : {M : Type 1} → statement M
 put-text-spec =

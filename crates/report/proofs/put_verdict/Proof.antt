@@ -49,7 +49,8 @@ returns-2 c =
     let w = c .before .before .before .before .before .before .before .before .before .before .before .before .put .ensures in
     let f = c .before .before .before .before .before .before .before .put-decimal .ensures in
     let l = c .before .before .put-line2 .ensures in
-    (rw (ne-eqb _ _ (c .before .before .before .before .before .before .before .before .before .before .before .before .before .before .before .if1 .left)) (joined w (joined (f .0) (l .0))), omega (arith, w .ends, f .1, l .1))
+    let faulty = c .before .before .before .before .before .before .before .before .before .before .before .before .before .before .before .if1 .left in
+    (rw (ne-eqb _ _ faulty) (joined w (joined (f .0) (l .0))), omega (arith, w .ends, f .1, l .1))
 
 pub put-verdict-spec : {M : Type 1} → statement M
 put-verdict-spec =
