@@ -1,5 +1,5 @@
 #!/usr/bin/env python3
-"""The deck of document 01 (the paper of rules; see README.md), written from that paper alone.
+"""The deck of document 01 (the paper of rules; see README.md), written from that paper.
 
 Run at the top of the repository it makes the cases of crates/deck_cases, as tests/deck_cases.py does; `--check` compares them.
 """
