@@ -5,14 +5,12 @@ Run at the top of the repository; `--check` compares the two files instead of wr
 the lent output, a time in eight bytes, a length and that many argument bytes. Numbers stand lowest byte first.
 """
 import random
-import sys
-from pathlib import Path
 
 from deck import DAY, LATEST, SPEEDS, Deck, block, speed, to_time
+from stored import store
 
 # ---- cases: each is a sequence of events for a deck of its own, kept for both files
 
-FOLDER = Path("crates/deck_cases")
 stdin, stdout, counts = bytearray(), [], {"sequences": 0, "events": 0}
 
 
@@ -446,15 +444,8 @@ def main():
     for cases in [example_cases, command_cases, data_cases, code_cases, speed_cases, gap_cases, quiet_cases, late_cases, flag_cases,
                   time_cases, place_cases, room_cases, order_cases, length_cases, random_cases]:
         cases()
-    made_of = f"{counts['sequences']} sequences, {counts['events']} events"
-    made = {FOLDER / "stdin": bytes(stdin), FOLDER / "stdout": "".join(stdout).encode()}
-    if sys.argv[1:] == ["--check"]:
-        wrong = [str(path) for path, content in made.items() if not path.exists() or path.read_bytes() != content]
-        print("differs: " + ", ".join(wrong) if wrong else f"deck: {made_of}, both files as made")
-        sys.exit(1 if wrong else 0)
-    for path, content in made.items():
-        path.write_bytes(content)
-    print(f"deck: {made_of} written")
+    store("deck_cases", {"stdin": bytes(stdin), "stdout": "".join(stdout).encode()},
+          f"{counts['sequences']} sequences, {counts['events']} events")
 
 
 if __name__ == "__main__":

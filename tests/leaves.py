@@ -5,10 +5,9 @@ Written from document 01 (the paper of rules; see README.md) alone. Run at the t
 A case of stdin is a letter, a length and that many argument bytes. Numbers of four bytes stand lowest byte first.
 """
 import random
-import sys
-from pathlib import Path
 
-FOLDER = Path("crates/leaf_cases")
+from stored import store
+
 DAY = 24 * 60 * 60 * 25  # positions of a day
 FILL = 0xAA  # what the program lends to the writer
 TAKEN, ROOM, PLACE, WORD, LENGTH, SUM, FIELD = 0, 1, 5, 6, 7, 8, 9
@@ -239,11 +238,4 @@ assert read(bytes.fromhex("200121"))[0] == TAKEN and read(bytes.fromhex("200122"
 for cases in [line_cases, sum_cases, reader_cases, writer_cases, time_cases, speed_cases]:
     cases()
 
-made = {FOLDER / "stdin": bytes(stdin), FOLDER / "stdout": "".join(stdout).encode()}
-if sys.argv[1:] == ["--check"]:
-    wrong = [str(path) for path, content in made.items() if not path.exists() or path.read_bytes() != content]
-    print("differs: " + ", ".join(wrong) if wrong else f"leaves: {len(stdout)} cases, both files as made")
-    sys.exit(1 if wrong else 0)
-for path, content in made.items():
-    path.write_bytes(content)
-print(f"leaves: {len(stdout)} cases written")
+store("leaf_cases", {"stdin": bytes(stdin), "stdout": "".join(stdout).encode()}, f"{len(stdout)} cases")
