@@ -229,20 +229,21 @@ const COMMANDS: [Command; 36] = [
     },
 ];
 
-// The one function that names the table.
-fn row(i: usize) -> Command
-    requires { ⌜ i < 36 ⌝ }
-    ensures { λ r. ⌜ r ≡ getD commands i noCommand ⌝ }
+// The one function that names the table: the prover reads the whole of it in each that does.
+fn rows() -> [Command; 36]
+    ensures { λ r. ⌜ r ≡ commands ⌝ }
 {
-    COMMANDS[i]
+    COMMANDS
 }
 
+// The table is fetched once: the compiled code builds it wherever it is named.
 pub fn find(first: u8, command: u8) -> ReplyKind
     ensures { λ r. ⌜ r ≡ lookup commands first command ⌝ }
 {
+    let table = rows();
     let mut i: usize = 0;
     while i < 36 {
-        let c = row(i);
+        let c = table[i];
         if c.first == first && c.command == command {
             let kind = c.kind;
             return kind;

@@ -36,23 +36,28 @@ unfolding commands
 long i h = h
 
 abbrev Inv-loop : tie.InvT-loop
-Inv-loop first command i₀ i = (i ≤ 36) × (lookup (drop i commands) first command ≡ lookup commands first command)
+Inv-loop first command table i₀ i = (i ≤ 36) × (lookup (drop i commands) first command ≡ lookup commands first command)
 
 abbrev μ-loop : tie.MeasureT-loop
-μ-loop first command i₀ i = 36 - i
+μ-loop first command table i₀ i = 36 - i
+
+rows-requires : tie.Need-rows-requires Inv-loop μ-loop
+rows-requires c κs = search needs
 
 loop-holds : tie.Need-loop-holds Inv-loop μ-loop
 loop-holds c = search needs
 
-row-requires : tie.Need-row-requires Inv-loop μ-loop
-row-requires c κs = search needs
+mul-c : tie.Need-mul-c Inv-loop μ-loop
+mul-c c = search needs
+
+array-copy-out-c : tie.Need-array-copy-out-c Inv-loop μ-loop
+array-copy-out-c c = search needs
 
 returns : tie.Need-returns Inv-loop μ-loop
 returns c =
     let w = c .before .before in
-    let r = w .before .before in
-    let l = r .before .before .loop in
-    let e = r .row .ensures in
+    let l = w .before .before .before .before .loop in
+    let e = w .before .before .before .before .before .rows .ensures in
     let here : l .i < length commands = long (l .i) (omega arith) in
     rw e
     (sym
@@ -70,7 +75,7 @@ loop-again : tie.Need-loop-again Inv-loop μ-loop
 loop-again c =
     let r = c .before .before in
     let l = r .before .before .loop in
-    let e = r .row .ensures in
+    let e = r .before .before .before .rows .ensures in
     let here : l .i < length commands = long (l .i) (omega arith) in (
       omega arith,
       sym
@@ -89,4 +94,15 @@ returns-2 c = sym (ended commands (c .before .loop .i) _ _ (omega arith)) ∙ c 
 pub find-spec : {M : Type 1} → statement M
 find-spec =
     tie.close
-    (tie.spec Inv-loop μ-loop loop-holds row-requires returns add-i loop-less loop-again returns-2)
+    (tie.spec
+    Inv-loop
+    μ-loop
+    rows-requires
+    loop-holds
+    mul-c
+    array-copy-out-c
+    returns
+    add-i
+    loop-less
+    loop-again
+    returns-2)
