@@ -7,6 +7,9 @@ ghost use Rattle.deck.specs.Calls.{Answers, newDeck};
 mod line;
 mod number;
 
+// The latest time that a call takes.
+pub const LAST_TIME: u64 = 281474976710655;
+
 // The open block is the first `held` bytes of `block`. A byte at a time below `free` is in quiet.
 pub struct Deck {
     pub clock: u64,

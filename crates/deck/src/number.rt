@@ -1,4 +1,6 @@
 // The numbers that refuse a call.
+use crate::LAST_TIME;
+use timecode::DAY;
 ghost use mathlib.Core.Path.{_≡_};
 ghost use Rattle.deck.specs.Calls.{refusal};
 
@@ -11,10 +13,6 @@ const BACK: u8 = 3;
 const FLAGS: u8 = 4;
 
 const PLACE: u8 = 5;
-
-const LAST_TIME: u64 = 281474976710655;
-
-const DAY: u32 = 24 * 60 * 60 * 25;
 
 pub(super) fn refusal(room: usize, clock: u64, time: u64, flags: u8, place: u32) -> u8
     ensures { λ r. ⌜ r ≡ refusal room clock time flags place ⌝ }

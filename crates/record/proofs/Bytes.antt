@@ -1,17 +1,20 @@
 -- Entries as bytes: reading and writing undo each other, and the places of a record's bytes walk its list of entries.
 use Prim.Native.Nat.{ℕ, zero, suc, _+_, _*_, _-_, _/_, _%_, _^_, _≤_, _<_}
 use mathlib.Core.Path.{_≡_, refl, sym, ap, _∙_}
+use mathlib.Core.Bool.{true}
 use mathlib.Core.List.{List, [], _∷_, _++_, append-nil, append-assoc}
 use native.Mathlib.Nat.{pow-suc}
 use native.Mathlib.Numerals.{add-one}
 use native.Mathlib.Omega.{arith}
+use borrow.Author.Tests.{leb-true}
 use borrow.Rule.Slice.PartMut.{midOf, putMid, mid-len, same-len-mid}
+use lib.Dec.{eqb, leb}
 use lib.ListN.{length, getD, take, drop, set, length-drop, length-set, take-append-drop, List·getD-eq-default}
 use lib.Seq.{take-all, take-nil, take-at, take-suc-set, drop-at, drop-cons, drop-drop}
 use Rattle.execute.proofs.Replies.{Bytes}
 use Rattle.record.specs.declared.Entry.{Entry}
-use Rattle.record.proofs.Lists.{drop-bytes}
-use Rattle.record.specs.Bytes.{lowFirst, lowBytes, entryOf, bytesOf, firstEntries, entriesOf, noEntry}
+use Rattle.record.proofs.Lists.{true-of, and-right, drop-bytes}
+use Rattle.record.specs.Bytes.{lowFirst, lowBytes, entryOf, bytesOf, firstEntries, entriesOf, isRecord, noEntry}
 
 -- ---- numbers, lowest byte first
 
@@ -154,3 +157,9 @@ module _ (e : Entry) (c t out : List ℕ) (room : 12 ≤ length out) where
       let k = same-len-mid 2 4 xs c (m ∙ sym n) in
       let q′ : t ≡ lowBytes 6 (e .time) = q ∙ ap (λ (k : ℕ). lowBytes k (e .time)) (mid-len 6 12 (putMid 2 4 xs c) (omega arith)) in
       put-fields (e .kind) (e .flags) c t out m room ∙ rw (p′, q′)
+
+-- ---- the length of a record
+
+pub record-short : (size : ℕ) → isRecord size ≡ true → size ≤ 65532
+unfolding isRecord
+record-short size e = leb-true size 65532 (true-of _ (and-right (eqb (size % 12) 0) (leb size 65532) (rw e tt)))

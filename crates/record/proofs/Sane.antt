@@ -14,7 +14,8 @@ use Rattle.deck.specs.Line.{look, Deck, deck, atPowerOn, Answer, silently, void
 use Rattle.deck.proofs.Steps.{look-shut, look-early, acted-other}
 use Rattle.deck.proofs.Cases.{expired, looked-late, size-more, length-more, acted-dropped, acted-flagged, acted-first, acted-more, acted-last}
 use Rattle.record.specs.declared.Entry.{Entry}
-use Rattle.record.specs.Entries.{entry, flagsFit, fits, WellFormed, handed, afterEntry, run, lastTime}
+use Rattle.deck.specs.Calls.{flagsFit}
+use Rattle.record.specs.Entries.{entry, fits, WellFormed, handed, afterEntry, run, lastTime}
 use Rattle.record.specs.Turns.{Clean}
 use Rattle.record.proofs.Handed.{taped, acted-tape}
 use Rattle.record.proofs.Lists.{and-left, and-right, le-or-lt, drop-bytes}

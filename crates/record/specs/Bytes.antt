@@ -1,8 +1,8 @@
 -- Document 01, "Line record and turns": entries as bytes, and the calls that read and write them.
 use Prim.Native.Nat.{ℕ, zero, suc, _+_, _*_, _/_, _%_}
-use mathlib.Core.Bool.{cond}
+use mathlib.Core.Bool.{Bool, cond, _&&_}
 use mathlib.Core.List.{List, [], _∷_, _++_}
-use lib.Dec.{eqb, ltb}
+use lib.Dec.{eqb, leb, ltb}
 use lib.ListN.{length, take, drop, getD}
 use Rattle.record.specs.declared.Entry.{Entry}
 use Rattle.record.specs.declared.Written.{Written}
@@ -35,6 +35,10 @@ firstEntries (suc n) b = entryOf b ∷ firstEntries n (drop 12 b)
 -- the entries of a record
 unfoldable pub entriesOf : List ℕ → List Entry
 entriesOf b = firstEntries (length b / 12) b
+
+-- 10 RECORD, where this fails: "record not a multiple of 12 bytes, or over 65,532"
+unfoldable pub isRecord : ℕ → Bool
+isRecord size = eqb (size % 12) 0 && leb size 65532
 
 -- what is read where a record has no entry
 abbrev pub noEntry : Entry

@@ -1,20 +1,17 @@
 -- Document 01, "Line record and turns": entries, and how the deck is handed them.
 use mathlib.Core.Bool.{Bool, true, false, _&&_}
 use mathlib.Core.List.{List, [], _∷_, _++_, map}
-use Prim.Native.Nat.{ℕ, zero, suc, _%_, _^_}
+use Prim.Native.Nat.{ℕ, zero, suc, _^_}
 use lib.Dec.{T, eqb, ltb}
 use Rattle.timecode.specs.Time.{day}
 use Rattle.deck.specs.Line.{Event, byte, look, position, cassette, Deck, Reply, after, says}
+use Rattle.deck.specs.Calls.{flagsFit}
 use Rattle.record.specs.declared.Entry.{Entry}
 
 abbrev pub entry : (kind flags content time : ℕ) → Entry
 entry k f c t = record { kind = k; flags = f; content = c; time = t }
 
 -- ---- well formed
-
--- "flags lie within 70"
-abbrev pub flagsFit : ℕ → Bool
-flagsFit flags = eqb (flags % 16) 0 && ltb flags 0x80
 
 -- "kind (0 controller byte, 1 deck byte, 2 position, 3 cassette loaded) .. Kinds 0 and 1 have content under 256, kind 2 a
 -- legal position, kind 3 content 0; flags lie within 70, and are 0 outside kind 0."

@@ -1,15 +1,16 @@
 // Line records: entries of 12 bytes.
+use deck::LAST_TIME;
 ghost use mathlib.Core.Path.{_≡_};
 ghost use mathlib.Core.List.{[], _∷_};
 ghost use Prim.Native.Nat.{_≤_};
 ghost use lib.ListN.{length, getD};
-ghost use Rattle.record.specs.Bytes.{lowFirst, lowBytes, entryOf, entriesOf, noEntry, written, writtenOut};
+ghost use Rattle.record.specs.Bytes.{lowFirst, lowBytes, entryOf, entriesOf, isRecord, noEntry, written, writtenOut};
 
 const ROOM: u8 = 1;
 
 const LATE: u8 = 2;
 
-const LAST_TIME: u64 = 281474976710655;
+const LONGEST: usize = 65532;
 
 pub struct Entry {
     pub kind: u8,
@@ -49,6 +50,16 @@ fn first(b: &[u8]) -> Entry
         content: four(b[2], b[3], b[4], b[5]),
         time: six(b[6], b[7], b[8], b[9], b[10], b[11]),
     }
+}
+
+// Whether a record may have so many bytes.
+pub fn is_record(size: usize) -> bool
+    ensures { λ r. ⌜ r ≡ isRecord size ⌝ }
+{
+    if size % 12 != 0 {
+        return false;
+    }
+    size <= LONGEST
 }
 
 // The entry at this number, an entry of zeros where the bytes have no such whole entry.

@@ -11,7 +11,8 @@ const FIELD: u8 = 9;
 
 const FRAMES: u32 = 25;
 
-const DAY: u32 = 24 * 60 * 60 * FRAMES;
+// The positions of a day.
+pub const DAY: u32 = 24 * 60 * 60 * FRAMES;
 
 // A position, or the number that refuses it.
 pub struct Placed {
