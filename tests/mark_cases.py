@@ -2,19 +2,17 @@
 """Makes crates/mark_cases/stdin (records) and stdout (what the marker must say of them, by tests/marks.py).
 
 Run at the top of the repository; `--check` compares the two files instead of writing them. A case of stdin is the record's length and
-the number of table places lent, four bytes each, lowest first, and then the record. Its lines in stdout are `sound` and the number of
-turns, or `fault` and its place, and then `turns` and their starts; or `refused` alone.
+the number of table places lent, four bytes each, lowest first, and then the record. Its line in stdout has the number, the fault (0 if
+the record is sound), the place, the count and the turn starts.
 """
 import random
-import sys
-from pathlib import Path
 
 from deck import DAY, LATEST, Deck, block
 from deck_cases import FIT, PLACES, UNFIT, any_bytes, below, chance, one_of, sum_wrong
 from marks import (CASSETTE, CONTROLLER, DECK, LONGEST, POSITION, SOUND, STOPS, Entry, entries_of, finished, hand, mark, record_of,
                    well_formed)
+from stored import store
 
-FOLDER = Path("crates/mark_cases")
 stdin, stdout, said = bytearray(), [], {}
 
 # ---- cases
@@ -23,8 +21,8 @@ stdin, stdout, said = bytearray(), [], {}
 def record_case(record, places):
     no, fault, place, starts = mark(record, places)
     stdin.extend(len(record).to_bytes(4, "little") + places.to_bytes(4, "little") + record)
-    verdict = f"sound {len(starts)}" if fault == SOUND else f"fault {fault} at {place}"
-    stdout.extend([f"refused {no}\n"] if no else [verdict + "\n", " ".join(["turns", *map(str, starts)]) + "\n"])
+    turns = "".join(f" {start}" for start in starts)
+    stdout.append(f"no {no} fault {fault} place {place} count {len(starts)} turns{turns}\n")
     key = f"refused {no}" if no else fault or "sound"
     said[key] = said.get(key, 0) + 1
 
@@ -460,14 +458,7 @@ def short_records():
 def main():
     make()
     made_of = f"{sum(said.values())} records (" + ", ".join(f"{key} {said[key]}" for key in sorted(said, key=str)) + ")"
-    made = {FOLDER / "stdin": bytes(stdin), FOLDER / "stdout": "".join(stdout).encode()}
-    if sys.argv[1:] == ["--check"]:
-        wrong = [str(path) for path, content in made.items() if not path.exists() or path.read_bytes() != content]
-        print("differs: " + ", ".join(wrong) if wrong else f"mark: {made_of}, both files as made")
-        sys.exit(1 if wrong else 0)
-    for path, content in made.items():
-        path.write_bytes(content)
-    print(f"mark: {made_of} written")
+    store("mark_cases", {"stdin": bytes(stdin), "stdout": "".join(stdout).encode()}, made_of)
 
 
 if __name__ == "__main__":

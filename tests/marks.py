@@ -41,11 +41,16 @@ def well_formed(entry):
     return kind in CONTENT_BELOW and content < CONTENT_BELOW[kind] and flags & ~FLAG_BITS == 0 and (kind == CONTROLLER or flags == 0)
 
 
-def hand(deck, entry):
-    """The deck is handed the entry at its time, a deck byte as a look. What it replies."""
+def hand_any(deck, entry):
+    """The deck is handed the entry at its time, a deck byte as a look. Its number and its replies."""
     kind, flags, content, time = entry
-    no, replies = (deck.byte(time, content, flags) if kind == CONTROLLER else deck.look(time) if kind == DECK else
-                   deck.position(time, content) if kind == POSITION else deck.cassette(time))
+    return (deck.byte(time, content, flags) if kind == CONTROLLER else deck.look(time) if kind == DECK else
+            deck.position(time, content) if kind == POSITION else deck.cassette(time))
+
+
+def hand(deck, entry):
+    """The same where the deck takes it."""
+    no, replies = hand_any(deck, entry)
     assert no == TAKEN
     return replies
 

@@ -497,14 +497,12 @@ fn cases(mut input: &[u8]) -> String {
         let mut starts = vec![u32::MAX; places];
         let marked = mark(record, &mut starts);
         assert!(starts[marked.count..].iter().all(|start| *start == u32::MAX), "the rest is untouched");
-        out += &verdict(marked);
-        if marked.number == 0 {
-            out += "turns";
-            for start in &starts[..marked.count] {
-                let _ = write!(out, " {start}");
-            }
-            out += "\n";
+        let Marked { number, fault, place, count } = marked;
+        let _ = write!(out, "no {number} fault {fault} place {place} count {count} turns");
+        for start in &starts[..count] {
+            let _ = write!(out, " {start}");
         }
+        out += "\n";
     }
     out
 }

@@ -15,23 +15,16 @@ fn number(n: u64) {
     io::print_decimal(STDOUT_FILENO, n);
 }
 
-fn refusal(no: u8) {
-    text(b"refused");
-    number(no as u64);
-    text(b"\n");
-}
-
-fn verdict(m: Marked) {
-    if m.fault == 0 {
-        text(b"sound");
-        number(m.count as u64);
-    } else {
-        text(b"fault");
-        number(m.fault as u64);
-        text(b" at");
-        number(m.place as u64);
-    }
-    text(b"\n");
+// The number, the fault, the place and the count, whatever they are.
+fn fields(m: Marked) {
+    text(b"no");
+    number(m.no as u64);
+    text(b" fault");
+    number(m.fault as u64);
+    text(b" place");
+    number(m.place as u64);
+    text(b" count");
+    number(m.count as u64);
 }
 
 // The first `count` places of the table.
@@ -41,12 +34,6 @@ fn starts(table: &[u32], count: usize) {
         number(take::place(table, i) as u64);
         i += 1;
     }
-}
-
-fn turns(table: &[u32], count: usize) {
-    text(b"turns");
-    starts(table, count);
-    text(b"\n");
 }
 
 // Says so if one of the places from `from` on is not as it was lent.
@@ -67,14 +54,11 @@ fn untouched(table: &[u32], from: usize) -> bool {
     true
 }
 
-// A refusal has no verdict and no turns, and leaves the whole table alone.
+// A line for each record: what is handed back, and the turn starts.
 pub(super) fn marked(m: Marked, table: &[u32]) {
-    if m.no != 0 {
-        refusal(m.no);
-        behind(table, 0);
-        return;
-    }
-    verdict(m);
-    turns(table, m.count);
+    fields(m);
+    text(b" turns");
+    starts(table, m.count);
+    text(b"\n");
     behind(table, m.count);
 }

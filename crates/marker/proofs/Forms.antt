@@ -9,7 +9,8 @@ use lib.Dec.{eqb, ltb}
 use Rattle.timecode.specs.Time.{day}
 use Rattle.deck.proofs.Flags.{fit, unfit}
 use Rattle.record.specs.declared.Entry.{Entry}
-use Rattle.record.specs.Entries.{flagsFit, fits, formed, isController, isDeck}
+use Rattle.deck.specs.Calls.{flagsFit}
+use Rattle.record.specs.Entries.{fits, formed, isController, isDeck}
 
 pub no-controller : (k : ℕ) → (k ≡ 0 → ⊥) → isController k ≡ false
 no-controller zero n = absurd (n refl)

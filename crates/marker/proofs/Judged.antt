@@ -38,12 +38,17 @@ module _ (bytes before table : List ℕ) (m : Marker) (count i : ℕ) (v : Inv b
   abbrev s : State
   s = state i (take count table) m
 
-  -- at the end
-  pub ended : length bytes / 12 ≤ i → (f : ℕ) → f ≡ cond (resting (view (m .deck)) (awaited (m .waits))) 0 26 → verdict f s ≡ judge es
+  -- at the end: the place is the number of entries
+  pub ended : length bytes / 12 ≤ i → (f : ℕ) → f ≡ cond (resting (view (m .deck)) (awaited (m .waits))) 0 26
+      → verdict f (state (length bytes / 12) (take count table) m) ≡ judge es
   unfolding judgeFrom
   ended h f p =
+      let all : length bytes / 12 ≡ i = omega (arith, v .within) in
       let none : drop i es ≡ [] = drop-of-length-le es {i = i} (omega (arith, length-entries bytes)) in
-      ap (λ (x : ℕ). verdict x s) p ∙ sym (ap (λ (l : List Entry). judgeFrom l s) none) ∙ v .leads
+      ap (λ (k : ℕ). verdict f (state k (take count table) m)) all
+      ∙ ap (λ (x : ℕ). verdict x s) p
+      ∙ sym (ap (λ (l : List Entry). judgeFrom l s) none)
+      ∙ v .leads
 
   module _ (h : i < length bytes / 12) (r : Stepped) (x : Steps m (getD es i noEntry) r) where
     -- by the outcome of the next entry

@@ -1,22 +1,18 @@
 -- Document 01, "Line record and turns" and "Numbers that calls return": what the marker hands out.
-use Prim.Native.Nat.{ℕ, _/_, _%_, _≤_}
+use Prim.Native.Nat.{ℕ, _/_, _≤_}
 use mathlib.Core.Path.{_≡_}
-use mathlib.Core.Bool.{cond, not}
+use mathlib.Core.Bool.{cond}
 use mathlib.Core.List.{List}
-use lib.Dec.{eqb, ltb}
+use lib.Dec.{ltb}
 use lib.ListN.{length, take, drop}
-use Rattle.record.specs.Bytes.{entriesOf}
+use Rattle.record.specs.Bytes.{entriesOf, isRecord}
 use Rattle.record.specs.Marks.{Demand3}
 use Rattle.record.specs.Machine.{Verdict, judge}
 use Rattle.marker.specs.declared.Marked.{Marked}
 
 -- 10 RECORD: "record not a multiple of 12 bytes, or over 65,532"; 1 ROOM: "fewer places than entries"; "marker: 10, 1"
 unfoldable pub refusal : (size room : ℕ) → ℕ
-refusal size room =
-    cond (not (eqb (size % 12) 0)) 10
-    (cond (ltb 65532 size) 10
-    (cond (ltb room (size / 12)) 1
-    0))
+refusal size room = cond (isRecord size) (cond (ltb room (size / 12)) 1 0) 10
 
 -- "All of these but 0 return no other content (zeros ..)"
 abbrev pub nothing : ℕ → Marked

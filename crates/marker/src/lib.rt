@@ -47,8 +47,6 @@ const ROOM: u8 = 1;
 
 const RECORD: u8 = 10;
 
-const MOST: usize = 65532;
-
 const STOPS: u8 = 26;
 
 impl Marker {
@@ -87,10 +85,7 @@ impl Marker {
 fn refusal(size: usize, room: usize) -> u8
     ensures { λ r. ⌜ r ≡ refusal size room ⌝ }
 {
-    if size % 12 != 0 {
-        return RECORD;
-    }
-    if MOST < size {
+    if !record::is_record(size) {
         return RECORD;
     }
     if room < size / 12 {
@@ -109,8 +104,8 @@ fn run(bytes: &[u8], table: &mut [u32]) -> Marked
     let mut count: usize = 0;
     let mut i: usize = 0;
     while i < n {
-        let e = record::read(bytes, i);
-        let r = marker.step(e);
+        let t = cursor::take(bytes, i);
+        let r = marker.step(t.entry);
         if r.fault != 0 {
             return Marked {
                 no: 0,
@@ -124,12 +119,12 @@ fn run(bytes: &[u8], table: &mut [u32]) -> Marked
             table[count] = i as u32;
             count += 1;
         }
-        i += 1;
+        i = t.place;
     }
     Marked {
         no: 0,
         fault: marker.ends(),
-        place: i,
+        place: n,
         count: count,
     }
 }

@@ -1,15 +1,15 @@
 -- `run` meets its contract.
-use Prim.Native.Nat.{_-_}
-use mathlib.Core.Path.{refl, subst}
-use mathlib.Core.Logic.{⊎-elim}
+use Prim.Native.Nat.{_+_, _-_}
+use mathlib.Core.Path.{_≡_, refl, ap, _∙_, subst}
 use native.Mathlib.Omega.{arith}
 use borrow.Author.Needs.{needs}
-use Rattle.record.specs.declared.Entry.{Entry}
+use lib.ListN.{getD}
 use Rattle.record.specs.Bytes.{entriesOf, noEntry}
 use Rattle.record.proofs.Bytes.{length-entries}
+use Rattle.cursor.specs.declared.Taken.{Taken}
+use Rattle.cursor.proofs.Places.{moves}
 use Rattle.marker.specs.Steps.{Steps}
 use Rattle.marker.proofs.Judged.{Inv, begins-so, ended, faulty, no-start, start}
-use lib.ListN.{getD}
 use Rattle.marker.proofs.run.Statement.{statement}
 use Rattle.marker.proofs.run.Tie as tie
 
@@ -24,7 +24,15 @@ stepped : (c : tie.After-step Inv-loop μ-loop) → (let l = c .before .before .
     let bytes = l .before .before .before .before .args .bytes .now in
     Steps (l .loop .marker) (getD (entriesOf bytes) (l .loop .i) noEntry) (c .step .result))
 stepped c =
-    subst (λ (e : Entry). Steps (c .before .before .before .loop .marker) e (c .step .result)) (c .before .read .ensures) (c .step .ensures)
+    subst (λ (t : Taken). Steps (c .before .before .before .loop .marker) (t .entry) (c .step .result))
+    (c .before .take .ensures) (c .step .ensures)
+
+-- the cursor stands one on
+onward : (c : tie.After-take Inv-loop μ-loop) → c .take .result .place ≡ c .before .before .loop .i + 1
+onward c =
+    let l = c .before .before in
+    ap (λ (t : Taken). t .place) (c .take .ensures)
+    ∙ moves (l .before .before .before .before .args .bytes .now) (l .loop .i) (c .before .loop-test .taken)
 
 start-requires : tie.Need-start-requires Inv-loop μ-loop
 start-requires c κs = search needs
@@ -34,8 +42,8 @@ loop-holds c =
     let a = c .before .before .before .args in
     begins-so (a .bytes .now) (a .table .now) (c .start .result) (c .start .ensures)
 
-read-requires : tie.Need-read-requires Inv-loop μ-loop
-read-requires c κs = search needs
+take-requires : tie.Need-take-requires Inv-loop μ-loop
+take-requires c κs = search needs
 
 step-requires : tie.Need-step-requires Inv-loop μ-loop
 step-requires c κs = search needs
@@ -67,23 +75,29 @@ slice-write-table c = search needs
 add-count : tie.Need-add-count Inv-loop μ-loop
 add-count c = search needs
 
-add-i : tie.Need-add-i Inv-loop μ-loop
-add-i c = search needs
-
 loop-less : tie.Need-loop-less Inv-loop μ-loop
-loop-less c = search needs
+loop-less c = omega (arith, onward (c .before .before .before .before .before))
 
 loop-again : tie.Need-loop-again Inv-loop μ-loop
 loop-again c =
-    let a = c .before .before .before .before .before .before .before .before .before .before .before .args in
-    let l = c .before .before .before .before .before .before .before .loop in
-    let x = stepped (c .before .before .before .before) in
-    ⊎-elim
-    (λ w. rw (w .1, w .2) (start (a .bytes .now) (a .table .now) (l .table) (l .marker) (l .count) (l .i) (l .inv) (search needs)
-    (c .before .before .before .before .step .result) x (c .before .before .if1 .left) (w .0 .taken) (search needs)))
-    (λ w. rw (w .1, w .2) (no-start (a .bytes .now) (a .table .now) (l .table) (l .marker) (l .count) (l .i) (l .inv) (search needs)
-    (c .before .before .before .before .step .result) x (c .before .before .if1 .left) (w .0 .left)))
-    (c .if2 .came)
+    let s = c .before .before .before .before in
+    let a = s .before .before .before .before .before .before .before .args in
+    let l = s .before .before .before .loop in
+    rw (onward (s .before))
+    (start (a .bytes .now) (a .table .now) (l .table) (l .marker) (l .count) (l .i) (l .inv) (search needs)
+    (s .step .result) (stepped s) (c .before .before .if1 .left) (c .if2 .taken) (search needs))
+
+loop-less-2 : tie.Need-loop-less-2 Inv-loop μ-loop
+loop-less-2 c = omega (arith, onward (c .before .before .before .before .before))
+
+loop-again-2 : tie.Need-loop-again-2 Inv-loop μ-loop
+loop-again-2 c =
+    let s = c .before .before .before .before in
+    let a = s .before .before .before .before .before .before .before .args in
+    let l = s .before .before .before .loop in
+    rw (onward (s .before))
+    (no-start (a .bytes .now) (a .table .now) (l .table) (l .marker) (l .count) (l .i) (l .inv) (search needs)
+    (s .step .result) (stepped s) (c .before .before .if1 .left) (c .if2 .left))
 
 ends-requires : tie.Need-ends-requires Inv-loop μ-loop
 ends-requires c κs = search needs
@@ -111,7 +125,7 @@ run-spec =
     μ-loop
     start-requires
     loop-holds
-    read-requires
+    take-requires
     step-requires
     same-length
     returns
@@ -119,9 +133,10 @@ run-spec =
     mul-table
     slice-write-table
     add-count
-    add-i
     loop-less
     loop-again
+    loop-less-2
+    loop-again-2
     ends-requires
     same-length-2
     returns-2)

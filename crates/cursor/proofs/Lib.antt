@@ -1,0 +1,3 @@
+-- The laws that belong to no function.
+pub mod Places
+pub mod Held

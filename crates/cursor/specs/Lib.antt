@@ -1,0 +1,2 @@
+-- What the contracts of `cursor` mean.
+pub mod Cursors
