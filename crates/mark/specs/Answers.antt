@@ -5,7 +5,7 @@ use mathlib.Core.List.{List}
 use lib.ListN.{take, replicate}
 use Rattle.marker.specs.declared.Marked.{Marked}
 use Rattle.marker.specs.Marks.{Marks}
-use Rattle.report.specs.Text.{textOf}
+use Rattle.report.specs.Verdict.{textOf}
 
 -- the text of what the marker hands out for these bytes, with a table that has a place for every entry of the longest record
 pub record Answers (bytes text : List ℕ) : Type 0 where

@@ -20,13 +20,27 @@ fn answer(bytes: &[u8], out: &mut [u8]) -> usize
     written.len
 }
 
+fn print(bytes: &[u8]) {
+    let mut out = [0u8; 87440];
+    let len = answer(bytes, &mut out);
+    if !io::write_all(STDOUT_FILENO, &out[..len]) {
+        io::write_all(STDERR_FILENO, b"mark: not all could be written\n");
+    }
+}
+
+// Whether the input is at its end: a further read brings nothing. It brings something, or fails, where an earlier one had failed.
+fn ended() -> bool {
+    let mut more = [0u8; 1];
+    libc::read(STDIN_FILENO, &mut more) == 0
+}
+
 // Of a record that is longer than the buffer 65,536 bytes are read: too many, so it is refused all the same.
 fn main() {
     let mut buf = io::large_buffer();
     let n = io::read_full(STDIN_FILENO, &mut buf);
-    let mut out = [0u8; 87440];
-    let len = answer(&buf[..n], &mut out);
-    if !io::write_all(STDOUT_FILENO, &out[..len]) {
-        io::write_all(STDERR_FILENO, b"mark: not all could be written\n");
+    if n < 65536 && !ended() {
+        io::write_all(STDERR_FILENO, b"mark: not all could be read\n");
+        return;
     }
+    print(&buf[..n]);
 }

@@ -6,7 +6,8 @@ use native.Mathlib.Numerals.{add-one}
 use native.Mathlib.Omega.{arith}
 use lib.ListN.{length, take, getD, length-append}
 use lib.Seq.{take-suc}
-use Rattle.report.specs.Text.{line, turnLine, turnLines}
+use Rattle.report.specs.Text.{line}
+use Rattle.report.specs.Verdict.{turnLine, turnLines}
 use Rattle.report.proofs.Digits.{few}
 
 -- "turn ", ten digits at most, and the end

@@ -1,13 +1,12 @@
--- Document 01, "Line examples": what the program `mark` prints, in ASCII.
-use Prim.Native.Nat.{ℕ, zero, suc, _+_, _*_, _/_, _%_}
+-- What the programs print, in ASCII: numbers, lines, and a text in an output.
+use Prim.Native.Nat.{ℕ, zero, suc, _+_, _/_, _%_}
 use mathlib.Core.Bool.{cond}
 use mathlib.Core.List.{List, [], _∷_, _++_}
-use lib.Dec.{eqb, ltb}
+use lib.Dec.{ltb}
 use lib.ListN.{length, drop}
-use Rattle.marker.specs.declared.Marked.{Marked}
 use Rattle.report.specs.declared.Written.{Written}
 
--- ---- numbers and lines
+-- ---- numbers
 
 -- the decimal digits of n, which has at most so many; 48 is `0`
 unfoldable pub digitsOf : ℕ → ℕ → List ℕ
@@ -18,56 +17,43 @@ digitsOf (suc most) n = cond (ltb n 10) ((48 + n) ∷ []) (digitsOf most (n / 10
 abbrev pub decimal : ℕ → List ℕ
 decimal n = digitsOf 20 n
 
+-- an upper-case hexadecimal digit; 65 is `A`
+abbrev pub hexDigit : ℕ → ℕ
+hexDigit n = cond (ltb n 10) (48 + n) (55 + n)
+
+-- bytes in two hexadecimal digits, each behind a space
+unfoldable pub hexes : List ℕ → List ℕ
+hexes [] = []
+hexes (b ∷ bytes) = 32 ∷ hexDigit (b / 16) ∷ hexDigit (b % 16) ∷ hexes bytes
+
+-- ---- lines
+
 -- some words, a number and the line's end
 unfoldable pub line : List ℕ → ℕ → List ℕ
 line words n = words ++ (decimal n ++ (10 ∷ []))
 
--- ---- the lines of `mark`
+-- some words, bytes and the line's end
+unfoldable pub hexLine : (words bytes : List ℕ) → List ℕ
+hexLine words bytes = words ++ (hexes bytes ++ (10 ∷ []))
 
--- "sound 1"
-abbrev pub soundLine : ℕ → List ℕ
-soundLine turns = line (115 ∷ 111 ∷ 117 ∷ 110 ∷ 100 ∷ 32 ∷ []) turns
-
--- "fault 24 at 3"
-abbrev pub faultLine : (fault place : ℕ) → List ℕ
-faultLine fault place =
-    (102 ∷ 97 ∷ 117 ∷ 108 ∷ 116 ∷ 32 ∷ []) ++ (decimal fault ++ line (32 ∷ 97 ∷ 116 ∷ 32 ∷ []) place)
-
--- "turn 0"
-abbrev pub turnLine : ℕ → List ℕ
-turnLine start = line (116 ∷ 117 ∷ 114 ∷ 110 ∷ 32 ∷ []) start
+-- " at 3", after a number
+unfoldable pub atLine : (words : List ℕ) (n place : ℕ) → List ℕ
+atLine words n place = words ++ (decimal n ++ line (32 ∷ 97 ∷ 116 ∷ 32 ∷ []) place)
 
 -- "refused 10"
+abbrev pub refused : List ℕ
+refused = 114 ∷ 101 ∷ 102 ∷ 117 ∷ 115 ∷ 101 ∷ 100 ∷ 32 ∷ []
+
 abbrev pub refusedLine : ℕ → List ℕ
-refusedLine number = line (114 ∷ 101 ∷ 102 ∷ 117 ∷ 115 ∷ 101 ∷ 100 ∷ 32 ∷ []) number
+refusedLine number = line refused number
 
--- a line for each turn start, in order
-unfoldable pub turnLines : List ℕ → List ℕ
-turnLines [] = []
-turnLines (start ∷ starts) = turnLine start ++ turnLines starts
+-- ---- a text in an output
 
--- the first line of a record that is not refused
-unfoldable pub verdictLine : Marked → List ℕ
-verdictLine m = cond (eqb (m .fault) 0) (soundLine (m .count)) (faultLine (m .fault) (m .place))
-
--- "turn lines follow sound and fault alike. A refusal prints `refused 10` alone"
-unfoldable pub textOf : Marked → List ℕ → List ℕ
-textOf m starts = cond (eqb (m .no) 0) (verdictLine m ++ turnLines starts) (refusedLine (m .no))
-
--- ---- the text in an output
-
--- every text fits into so many bytes
-abbrev pub roomFor : List ℕ → ℕ
-roomFor starts = 64 + 16 * length starts
-
--- 1 ROOM for an output with less room, with nothing written; else the length of the text
-unfoldable pub written : Marked → (starts out : List ℕ) → Written
-written m starts out =
-    cond (ltb (length out) (roomFor starts))
-    (record { no = 1; len = 0 })
-    (record { no = 0; len = length (textOf m starts) })
+-- 1 ROOM for an output with less than so much room, with nothing written; else the length of the text
+unfoldable pub writtenIn : ℕ → (text out : List ℕ) → Written
+writtenIn room text out =
+    cond (ltb (length out) room) (record { no = 1; len = 0 }) (record { no = 0; len = length text })
 
 -- the text at the front of the output, the rest untouched
-unfoldable pub writtenOut : Marked → (starts out : List ℕ) → List ℕ
-writtenOut m starts out =
-    cond (ltb (length out) (roomFor starts)) out (textOf m starts ++ drop (length (textOf m starts)) out)
+unfoldable pub writtenOut : ℕ → (text out : List ℕ) → List ℕ
+writtenOut room text out = cond (ltb (length out) room) out (text ++ drop (length text) out)

@@ -4,7 +4,7 @@ use mathlib.Core.Path.{_≡_}
 use native.Mathlib.Omega.{arith}
 use borrow.Author.Needs.{needs}
 use lib.ListN.{length, take, length-take, length-replicate}
-use Rattle.report.specs.Text.{textOf, roomFor}
+use Rattle.report.specs.Verdict.{textOf, roomFor}
 use Rattle.report.proofs.Room.{long, told}
 use Rattle.mark.proofs.Counts.{counted, counts}
 use Rattle.mark.proofs.answer.Statement.{statement}
@@ -38,10 +38,12 @@ returns c =
     let a = s .args in
     let starts = take (m .result .count) (m .last .1 .0) in
     let few : m .result .count ≤ 5461 = rw (length-replicate {A = ℕ} 5461 0) at (counted (m .ensures)) in
-    let room : roomFor starts ≤ length (a .out .now) = omega (arith, few, length-take (m .result .count) (m .last .1 .0), s .pre) in
-    let n : t .result .len ≡ length (textOf (m .result) starts) = rw (t .ensures .0) (long (m .result) starts (a .out .now) room) in
-    let e : take (t .result .len) (t .last .1 .1 .0) ≡ textOf (m .result) starts =
-    rw (t .ensures .0, t .ensures .1) (told (m .result) starts (a .out .now) room) in
+    let room : roomFor starts ≤ length (a .out .now) =
+    omega (arith, few, length-take (m .result .count) (m .last .1 .0), s .pre) in
+    let text = textOf (m .result) starts in
+    let n : t .result .len ≡ length text = rw (t .ensures .0) (long (roomFor starts) text (a .out .now) room) in
+    let e : take (t .result .len) (t .last .1 .1 .0) ≡ text =
+    rw (t .ensures .0, t .ensures .1) (told (roomFor starts) text (a .out .now) room) in
     (counts _ _ _ n e, record { marked = m .result; table = m .last .1 .0; marks = m .ensures; told = e })
 
 pub answer-spec : {M : Type 1} → statement M

@@ -3,7 +3,8 @@ use mathlib.Core.Path.{_≡_, sym, _∙_}
 use native.Mathlib.Omega.{arith}
 use borrow.Author.Tests.{ltb-false}
 use lib.ListN.{length}
-use Rattle.report.specs.Text.{textOf, written, writtenOut}
+use Rattle.report.specs.Text.{writtenIn, writtenOut}
+use Rattle.report.specs.Verdict.{textOf}
 use Rattle.report.proofs.Putting.{whole}
 use borrow.Author.Needs.{needs}
 use Rattle.report.proofs.text.Statement.{statement}
@@ -13,7 +14,7 @@ short-requires : tie.Need-short-requires
 short-requires c κs = search needs
 
 returns : tie.Need-returns
-unfolding written writtenOut
+unfolding writtenIn writtenOut
 returns c = let e = sym (c .before .short .ensures) ∙ c .if1 .taken in (simp e, simp e)
 
 put-text-requires : tie.Need-put-text-requires
@@ -23,7 +24,7 @@ same-length : tie.Need-same-length
 same-length c = search needs
 
 returns-2 : tie.Need-returns-2
-unfolding written writtenOut
+unfolding writtenIn writtenOut
 returns-2 c =
     let a = c .before .before .before .before .before .before .before .before .args in
     let e = sym (c .before .before .before .before .before .short .ensures) ∙ c .before .before .before .before .if1 .left in

@@ -1,10 +1,10 @@
--- `report::put_text` meets its contract.
+-- `verdict::put_text` meets its contract.
 use borrow.Author.Tests.{eq-eqb, ne-eqb}
-use Rattle.report.specs.Text.{textOf}
+use Rattle.report.specs.Verdict.{textOf}
 use Rattle.report.proofs.Putting.{joined}
 use borrow.Author.Needs.{needs}
-use Rattle.report.proofs.put_text.Statement.{statement}
-use Rattle.report.proofs.put_text.Tie as tie
+use Rattle.report.proofs.verdict.put_text.Statement.{statement}
+use Rattle.report.proofs.verdict.put_text.Tie as tie
 
 slice-aggregate-put-line : tie.Need-slice-aggregate-put-line
 slice-aggregate-put-line c = search needs
@@ -20,7 +20,9 @@ same-length c = search needs
 
 returns : tie.Need-returns
 unfolding textOf
-returns c = rw (ne-eqb _ _ (c .before .before .before .before .before .before .if1 .taken)) (c .before .before .put-line .ensures .0)
+returns c =
+    let taken = c .before .before .before .before .before .before .if1 .taken in
+    rw (ne-eqb _ _ taken) (c .before .before .put-line .ensures .0)
 
 put-verdict-requires : tie.Need-put-verdict-requires
 put-verdict-requires c κs = search needs
@@ -35,8 +37,8 @@ returns-2 : tie.Need-returns-2
 unfolding textOf
 returns-2 c =
     let v = c .before .before .before .before .before .before .put-verdict .ensures .0 in
-    let taken = c .before .before .before .before .before .before .before .before .if1 .left in
-    rw (eq-eqb _ _ taken) (joined v (c .before .before .put-turns .ensures))
+    let left = c .before .before .before .before .before .before .before .before .if1 .left in
+    rw (eq-eqb _ _ left) (joined v (c .before .before .put-turns .ensures))
 
 pub put-text-spec : {M : Type 1} → statement M
 put-text-spec =

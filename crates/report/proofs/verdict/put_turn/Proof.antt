@@ -1,9 +1,9 @@
--- `report::put_turn` meets its contract.
+-- `verdict::put_turn` meets its contract.
 use native.Mathlib.Omega.{arith}
 use Rattle.report.proofs.Lines.{turn-short}
 use borrow.Author.Needs.{needs}
-use Rattle.report.proofs.put_turn.Statement.{statement}
-use Rattle.report.proofs.put_turn.Tie as tie
+use Rattle.report.proofs.verdict.put_turn.Statement.{statement}
+use Rattle.report.proofs.verdict.put_turn.Tie as tie
 
 slice-aggregate-put-line : tie.Need-slice-aggregate-put-line
 slice-aggregate-put-line c = search needs

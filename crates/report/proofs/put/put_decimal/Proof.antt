@@ -1,4 +1,4 @@
--- `report::put_decimal` meets its contract.
+-- `put::put_decimal` meets its contract.
 use mathlib.Core.Path.{_≡_, _∙_}
 use native.Mathlib.Omega.{arith}
 use Prim.Native.Nat.{_≤_}
@@ -6,8 +6,8 @@ use lib.ListN.{take}
 use Rattle.report.specs.Text.{decimal}
 use Rattle.report.proofs.Digits.{fewest, spelled}
 use borrow.Author.Needs.{needs}
-use Rattle.report.proofs.put_decimal.Statement.{statement}
-use Rattle.report.proofs.put_decimal.Tie as tie
+use Rattle.report.proofs.put.put_decimal.Statement.{statement}
+use Rattle.report.proofs.put.put_decimal.Tie as tie
 
 decimal-requires : tie.Need-decimal-requires
 decimal-requires c κs = search needs

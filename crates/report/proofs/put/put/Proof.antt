@@ -1,4 +1,4 @@
--- `report::put` meets its contract: so much of the text as the loop has passed is put.
+-- `put::put` meets its contract: so much of the text as the loop has passed is put.
 use Prim.Native.Nat.{_+_, _-_, _≤_}
 use mathlib.Core.Path.{_≡_, refl}
 use native.Mathlib.Nat.{add-zero}
@@ -8,8 +8,8 @@ use lib.ListN.{length, take, length-set}
 use lib.Seq.{take-all}
 use Rattle.report.specs.Puts.{Puts}
 use Rattle.report.proofs.Putting.{none, more}
-use Rattle.report.proofs.put.Statement.{statement}
-use Rattle.report.proofs.put.Tie as tie
+use Rattle.report.proofs.put.put.Statement.{statement}
+use Rattle.report.proofs.put.put.Tie as tie
 
 abbrev Inv-loop : tie.InvT-loop
 Inv-loop out₀ at text i₀ out i = (i ≤ length text) × (length out ≡ length out₀) × Puts out₀ at (take i text) out (at + i)

@@ -1,16 +1,16 @@
--- `report::put_turns` meets its contract: the lines of the starts that the loop has passed are put.
+-- `verdict::put_turns` meets its contract: the lines of the starts that the loop has passed are put.
 use Prim.Native.Nat.{_+_, _-_, _*_, _≤_}
 use mathlib.Core.Path.{_≡_, refl, _∙_}
 use native.Mathlib.Omega.{arith}
 use lib.ListN.{length, take}
 use lib.Seq.{take-all}
-use Rattle.report.specs.Text.{turnLines}
+use Rattle.report.specs.Verdict.{turnLines}
 use Rattle.report.specs.Puts.{Puts}
 use Rattle.report.proofs.Putting.{none, joined}
 use Rattle.report.proofs.Lines.{turns-more}
 use borrow.Author.Needs.{needs}
-use Rattle.report.proofs.put_turns.Statement.{statement}
-use Rattle.report.proofs.put_turns.Tie as tie
+use Rattle.report.proofs.verdict.put_turns.Statement.{statement}
+use Rattle.report.proofs.verdict.put_turns.Tie as tie
 
 abbrev Inv-loop : tie.InvT-loop
 Inv-loop out₀ at starts end₀ i₀ out end i =

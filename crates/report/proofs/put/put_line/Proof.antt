@@ -1,0 +1,41 @@
+-- `put::put_line` meets its contract: words, a number and the end, one behind the other.
+use native.Mathlib.Omega.{arith}
+use Rattle.report.specs.Text.{line}
+use Rattle.report.proofs.Putting.{joined}
+use borrow.Author.Needs.{needs}
+use Rattle.report.proofs.put.put_line.Statement.{statement}
+use Rattle.report.proofs.put.put_line.Tie as tie
+
+put-requires : tie.Need-put-requires
+put-requires c κs = search needs
+
+put-decimal-requires : tie.Need-put-decimal-requires
+put-decimal-requires c κs = search needs
+
+slice-aggregate-put : tie.Need-slice-aggregate-put
+slice-aggregate-put c = search needs
+
+put-requires-2 : tie.Need-put-requires-2
+put-requires-2 c κs = search needs
+
+same-length : tie.Need-same-length
+same-length c = search needs
+
+returns : tie.Need-returns
+unfolding line
+returns c =
+    let w = c .before .before .before .before .before .before .before .before .before .before .before .put .ensures in
+    let n = c .before .before .before .before .before .before .before .put-decimal .ensures in
+    let e = c .before .before .put2 .ensures in
+    (joined w (joined (n .0) e), omega (arith, w .ends, n .1, e .ends))
+
+pub put-line-spec : {M : Type 1} → statement M
+put-line-spec =
+    tie.close
+    (tie.spec
+    put-requires
+    put-decimal-requires
+    slice-aggregate-put
+    put-requires-2
+    same-length
+    returns)

@@ -1,0 +1,62 @@
+// The last five lines of the program `answer`: how the deck stands.
+use super::put;
+use settings::Settings;
+ghost use Prim.Native.Nat.{_+_, _≤_};
+ghost use mathlib.Core.Path.{_≡_};
+ghost use lib.IntN.{natAbs};
+ghost use lib.ListN.{length};
+ghost use Rattle.report.specs.Transcript.{speedLine, timeLine, timeLines, settingsLines};
+ghost use Rattle.report.specs.Puts.{Puts};
+
+// The size of the least i32 is one that no i32 has.
+fn size(v: i32) -> u64
+    ensures { λ r. ⌜ r ≡ natAbs v ⌝ }
+{
+    if v < 0 {
+        return (-(v as i64)) as u64;
+    }
+    v as u64
+}
+
+fn put_speed(out: &mut [u8], at: usize, v: i32) -> usize
+    requires { ⌜ at + 28 ≤ length (now out) ⌝ }
+    ensures { λ r. ⌜ Puts (now (out .entry)) at (speedLine v) (now (out .exit)) r ⌝ }
+    ensures { λ r. ⌜ r ≤ at + 28 ⌝ }
+{
+    if v < 0 {
+        return put::put_line(out, at, b"speed -", size(v));
+    }
+    put::put_line(out, at, b"speed ", size(v))
+}
+
+fn put_time(out: &mut [u8], at: usize, words: &[u8], position: u32) -> usize
+    requires { ⌜ at + length (now words) + 13 ≤ length (now out) ⌝ }
+    ensures { λ r. ⌜ Puts (now (out .entry)) at (timeLine (now (words .entry)) position) (now (out .exit)) r ⌝ }
+    ensures { λ r. ⌜ r ≡ at + length (now (words .entry)) + 13 ⌝ }
+{
+    let time = timecode::time(position);
+    put::put_hex_line(out, at, words, &time.bytes)
+}
+
+fn put_times(out: &mut [u8], at: usize, settings: Settings) -> usize
+    requires { ⌜ at + 48 ≤ length (now out) ⌝ }
+    ensures { λ r. ⌜ Puts (now (out .entry)) at (timeLines settings) (now (out .exit)) r ⌝ }
+    ensures { λ r. ⌜ r ≡ at + 48 ⌝ }
+{
+    let from = put_time(out, at, b"time", settings.position);
+    let inpoint = settings.inpoint;
+    let end = put_time(out, from, b"in", inpoint.at);
+    let outpoint = settings.outpoint;
+    put_time(out, end, b"out", outpoint.at)
+}
+
+pub(super) fn put_settings(out: &mut [u8], at: usize, settings: Settings) -> usize
+    requires { ⌜ at + 128 ≤ length (now out) ⌝ }
+    ensures { λ r. ⌜ Puts (now (out .entry)) at (settingsLines settings) (now (out .exit)) r ⌝ }
+    ensures { λ r. ⌜ r ≤ at + 128 ⌝ }
+{
+    let status = settings.status();
+    let from = put::put_hex_line(out, at, b"status", &status);
+    let end = put_times(out, from, settings);
+    put_speed(out, end, settings.speed)
+}
