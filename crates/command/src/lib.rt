@@ -40,10 +40,10 @@ const FORWARD: bool = false;
 const REVERSE: bool = true;
 
 // The first byte has the exact count of data bytes in its low four bits.
-pub struct Command {
-    pub first: u8,
-    pub command: u8,
-    pub kind: ReplyKind,
+struct Command {
+    first: u8,
+    command: u8,
+    kind: ReplyKind,
 }
 
 const COMMANDS: [Command; 36] = [

@@ -1,7 +1,7 @@
 // Hands the events that standard input asks for to decks, and prints their answers and how each deck stands at the end.
 //
 // A call of the input is a letter, the size of the output to lend, a time in eight bytes, a length and that many argument bytes. Numbers
-// stand lowest byte first. tests/deck.py makes the calls, and from document 01 alone the lines to expect.
+// stand lowest byte first. tests/deck_cases.py makes the calls, and tests/deck.py, from document 01 alone, the lines to expect.
 use deck::Deck;
 
 mod events;

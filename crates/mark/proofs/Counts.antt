@@ -1,11 +1,10 @@
--- How many turns there are, and how many bytes of text.
+-- How many turns there are.
 use Prim.Native.Nat.{ℕ, _≤_}
 use mathlib.Core.Path.{_≡_, sym, ap, _∙_}
 use mathlib.Core.List.{List}
 use native.Mathlib.Decide.{decLt}
 use native.Mathlib.Omega.{arith}
-use lib.ListN.{length, take, length-take}
-use Rattle.io.specs.Counts.{Counts}
+use lib.ListN.{length}
 use Rattle.record.proofs.Bytes.{length-entries}
 use Rattle.marker.specs.declared.Marked.{Marked}
 use Rattle.marker.specs.Marks.{Marks}
@@ -20,9 +19,3 @@ counted {bytes} {before} {after} {r} m =
     (λ h.
     let z : r .no ≡ 0 = omega (arith, h) in
     omega (arith, m .few z, length-entries bytes, fitting _ _ (sym (m .number) ∙ z) .1))
-
--- so many bytes are the text at the front
-pub counts : (n : ℕ) (out text : List ℕ) → n ≡ length text → take n out ≡ text → Counts n out
-counts n out text l e =
-    let k : n ≡ length (take n out) = l ∙ sym (ap (λ (xs : List ℕ). length xs) e) in
-    (omega (arith, k, length-take n out), k)

@@ -15,24 +15,24 @@ mod reply;
 mod step;
 
 // The bytes of a reply that are still to come are those of `reply` from `from` to `end`; none is to come later than `latest`.
-pub struct Waits {
-    pub reply: [u8; 18],
-    pub from: usize,
-    pub end: usize,
-    pub latest: u64,
+struct Waits {
+    reply: [u8; 18],
+    from: usize,
+    end: usize,
+    latest: u64,
 }
 
 // What is known between two entries. The deck's clock is the time of the entry before.
-pub struct Marker {
-    pub deck: Deck,
-    pub waits: Waits,
+struct Marker {
+    deck: Deck,
+    waits: Waits,
 }
 
 // An entry's fault, 0 if it has none; whether it begins a turn; and the marker after it, the same where there is a fault.
-pub struct Stepped {
-    pub fault: u8,
-    pub begins: bool,
-    pub marker: Marker,
+struct Stepped {
+    fault: u8,
+    begins: bool,
+    marker: Marker,
 }
 
 // The number; then the fault, 0 if the record is sound, its place, and how many turn starts stand at the front of the table.

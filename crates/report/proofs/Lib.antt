@@ -6,4 +6,10 @@ pub mod Hexes
 pub mod Lines
 pub mod Speeds
 pub mod Room
+-- of the transcript
+pub mod Meant
+pub mod Sized
+pub mod Answering
+pub mod Passed
+-- lines by computation
 pub mod Examples

@@ -3,3 +3,4 @@ pub mod Text
 pub mod Puts
 pub mod Verdict
 pub mod Transcript
+pub mod Answered

@@ -5,7 +5,9 @@ ghost use Prim.Native.Nat.{_+_, _*_, _<_};
 ghost use lib.Dec.{ltb};
 ghost use Rattle.report.specs.Text.{writtenIn, writtenOut};
 ghost use Rattle.report.specs.Verdict.{textOf, roomFor};
+ghost use Rattle.report.specs.Transcript.{transcript, roomFor as roomForBytes};
 
+mod entries;
 mod put;
 mod standing;
 mod verdict;
@@ -41,5 +43,20 @@ pub fn text(marked: Marked, starts: &[u32], out: &mut [u8]) -> Written
     Written {
         no: 0,
         len: verdict::put_text(out, marked, starts),
+    }
+}
+
+// What the deck says to a record's entries, and how it stands after them.
+pub fn transcript(bytes: &[u8], out: &mut [u8]) -> Written
+    ensures { λ r. ⌜ r ≡ writtenIn (roomForBytes (now (bytes .entry))) (transcript (now (bytes .entry))) (now (out .entry)) ⌝
+        ∗ ⌜ now (out .exit)
+        ≡ writtenOut (roomForBytes (now (bytes .entry))) (transcript (now (bytes .entry))) (now (out .entry)) ⌝ }
+{
+    if short(out.len(), 128, 108, bytes.len() / 12) {
+        return Written { no: ROOM, len: 0 };
+    }
+    Written {
+        no: 0,
+        len: entries::put_transcript(out, bytes),
     }
 }

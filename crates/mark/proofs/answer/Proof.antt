@@ -5,8 +5,8 @@ use native.Mathlib.Omega.{arith}
 use borrow.Author.Needs.{needs}
 use lib.ListN.{length, take, length-take, length-replicate}
 use Rattle.report.specs.Verdict.{textOf, roomFor}
-use Rattle.report.proofs.Room.{long, told}
-use Rattle.mark.proofs.Counts.{counted, counts}
+use Rattle.report.proofs.Room.{long, told, counts}
+use Rattle.mark.proofs.Counts.{counted}
 use Rattle.mark.proofs.answer.Statement.{statement}
 use Rattle.mark.proofs.answer.Tie as tie
 
