@@ -6,3 +6,4 @@ pub mod Tests
 pub mod Whole
 pub mod Judged
 pub mod Taken
+pub mod Unique

@@ -1,5 +1,6 @@
 -- The turn theorem: the automaton that reads a record, against the turn rules. From the rules to the automaton: Coming to Turned;
--- back: Pieces to Sounds; further entries: Sane, Extends; the fault numbers: Awaiting, Faults; the whole: Walk, Theorem.
+-- back: Pieces to Sounds; further entries: Sane, Extends; the fault numbers: Awaiting, Faults; the whole: Walk, Theorem; that it
+-- is the only answer: Unique.
 pub mod Handed
 pub mod Lists
 pub mod Readings
@@ -17,6 +18,7 @@ pub mod Awaiting
 pub mod Faults
 pub mod Walk
 pub mod Theorem
+pub mod Unique
 -- entries as bytes
 pub mod Bytes
 pub mod Examples
