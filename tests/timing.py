@@ -15,18 +15,15 @@ ROUNDS = 1_000  # as in crates/timing/src/main.rt
 
 
 def longest():
-    line, commands = Line(), cycle(FIT.items())
-    while True:
-        code, fit = next(commands)
-        before = list(line.entries)
+    """Every command in turn, as often as they fit, and then positions up to the greatest length."""
+    line, whole = Line(), []
+    for code, fit in cycle(FIT.items()):
         line.turn(block(code, fit[-1]), wait=500)
         if len(line.entries) > LONGEST // 12:
             break
-    line = Line()
-    line.entries = before
-    while len(line.entries) < LONGEST // 12:
-        line.entries.append(before[-1]._replace(kind=POSITION, content=7))
-    return record_of(line.entries)
+        whole = list(line.entries)
+    filling = [whole[-1]._replace(kind=POSITION, content=7)] * (LONGEST // 12 - len(whole))
+    return record_of(whole + filling)
 
 
 def main():

@@ -100,13 +100,7 @@ fn signed(v: i32) {
     } else {
         text(b" ");
     }
-    digits(distance(v));
-}
-
-// How far `v` is from 0. In 64 bits every `v` has its negative.
-fn distance(v: i32) -> u64 {
-    let w = v as i64;
-    if w < 0 { (0 - w) as u64 } else { w as u64 }
+    digits(speed::size(v));
 }
 
 // What the rules settle of a deck: clock, open block, status bytes, position, In, Out, speed.

@@ -19,11 +19,5 @@ fn signed(v: i32) {
     } else {
         show::text(b" ");
     }
-    show::digits(distance(v));
-}
-
-// How far `v` is from 0. In 64 bits every `v` has its negative.
-fn distance(v: i32) -> u64 {
-    let w = v as i64;
-    if w < 0 { (0 - w) as u64 } else { w as u64 }
+    show::digits(speed::size(v));
 }

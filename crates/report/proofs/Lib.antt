@@ -4,7 +4,6 @@ pub mod Putting
 pub mod Digits
 pub mod Hexes
 pub mod Lines
-pub mod Speeds
 pub mod Room
 -- of the transcript
 pub mod Meant

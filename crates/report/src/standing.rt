@@ -3,20 +3,9 @@ use super::put;
 use settings::Settings;
 ghost use Prim.Native.Nat.{_+_, _≤_};
 ghost use mathlib.Core.Path.{_≡_};
-ghost use lib.IntN.{natAbs};
 ghost use lib.ListN.{length};
 ghost use Rattle.report.specs.Transcript.{speedLine, timeLine, timeLines, settingsLines};
 ghost use Rattle.report.specs.Puts.{Puts};
-
-// The size of the least i32 is one that no i32 has.
-fn size(v: i32) -> u64
-    ensures { λ r. ⌜ r ≡ natAbs v ⌝ }
-{
-    if v < 0 {
-        return (-(v as i64)) as u64;
-    }
-    v as u64
-}
 
 fn put_speed(out: &mut [u8], at: usize, v: i32) -> usize
     requires { ⌜ at + 28 ≤ length (now out) ⌝ }
@@ -24,9 +13,9 @@ fn put_speed(out: &mut [u8], at: usize, v: i32) -> usize
     ensures { λ r. ⌜ r ≤ at + 28 ⌝ }
 {
     if v < 0 {
-        return put::put_line(out, at, b"speed -", size(v));
+        return put::put_line(out, at, b"speed -", speed::size(v));
     }
-    put::put_line(out, at, b"speed ", size(v))
+    put::put_line(out, at, b"speed ", speed::size(v))
 }
 
 fn put_time(out: &mut [u8], at: usize, words: &[u8], position: u32) -> usize

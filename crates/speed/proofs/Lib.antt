@@ -2,3 +2,4 @@
 pub mod Signs
 pub mod Rule
 pub mod Unique
+pub mod Sizes

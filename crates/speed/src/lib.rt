@@ -1,6 +1,6 @@
-// Speeds: what the speed byte of jog, variable and shuttle means.
+// Speeds: what the speed byte of jog, variable and shuttle means; the size of a speed.
 ghost use mathlib.Core.Path.{_≡_};
-ghost use lib.IntN.{pos};
+ghost use lib.IntN.{pos, natAbs};
 ghost use Rattle.speed.specs.Speed.{IsSpeed, speedOf, signed};
 
 // In thousandths of the play speed.
@@ -274,4 +274,14 @@ pub fn speed(n: u8, reverse: bool) -> i32
 {
     let v = forward(n);
     if reverse { -v } else { v }
+}
+
+// The size of a speed. That of the least i32 is one that no i32 has, so the last 1 is added in 64 bits.
+pub fn size(v: i32) -> u64
+    ensures { λ r. ⌜ r ≡ natAbs v ⌝ }
+{
+    if v < 0 {
+        return (-1 - v) as u64 + 1;
+    }
+    v as u64
 }

@@ -5,7 +5,7 @@ use lib.IntN.{natAbs}
 use mir.Syntax.{w32}
 use mir.ValLaws.{toZ-ofZ}
 use Rattle.report.specs.Transcript.{speedLine}
-use Rattle.report.proofs.Speeds.{backward, forward}
+use Rattle.speed.proofs.Sizes.{backward, forward}
 use borrow.Author.Needs.{needs}
 use Rattle.report.proofs.standing.put_speed.Statement.{statement}
 use Rattle.report.proofs.standing.put_speed.Tie as tie
