@@ -1,5 +1,5 @@
 #!/usr/bin/env python3
-"""Makes crates/mark_cases/stdin (records) and stdout (what the marker must say of them, by tests/marks.py).
+"""Makes crates/mark_cases/stdin (records) and stdout (what the marker must say of them, by tests/marks.py and tests/marks_again.py).
 
 Run at the top of the repository; `--check` compares the two files instead of writing them. A case of stdin is the record's length and
 the number of table places lent, four bytes each, lowest first, and then the record. Its line in stdout has the number, the fault (0 if
@@ -11,6 +11,7 @@ from deck import DAY, LATEST, Deck, block
 from deck_cases import FIT, PLACES, UNFIT, any_bytes, below, chance, one_of, sum_wrong
 from marks import (CASSETTE, CONTROLLER, DECK, LONGEST, POSITION, SOUND, STOPS, Entry, entries_of, finished, hand, mark, record_of,
                    well_formed)
+from marks_again import mark as mark_again
 from stored import store
 
 stdin, stdout, said = bytearray(), [], {}
@@ -20,6 +21,7 @@ stdin, stdout, said = bytearray(), [], {}
 
 def record_case(record, places):
     no, fault, place, starts = mark(record, places)
+    assert mark_again(record, places) == (no, fault, place, starts)
     stdin.extend(len(record).to_bytes(4, "little") + places.to_bytes(4, "little") + record)
     turns = "".join(f" {start}" for start in starts)
     stdout.append(f"no {no} fault {fault} place {place} count {len(starts)} turns{turns}\n")
