@@ -79,7 +79,7 @@ hears t (r ∷ s ∷ rs) w out b = absurd b
 
 -- ---- a call that is not refused
 
-pub unrefused : (room clock time flags place : ℕ) → room ≡ 18 → clock ≤ time → time < 2 ^ 48 → flagsFit flags ≡ true → place < day
+pub unrefused : (room clock time flags place : ℕ) → room ≡ 20 → clock ≤ time → time < 2 ^ 48 → flagsFit flags ≡ true → place < day
     → refusal room clock time flags place ≡ 0
 unfolding refusal
 unrefused room clock time flags place r c t f p =

@@ -13,25 +13,25 @@ use Rattle.record.specs.Machine.{some}
 use Rattle.marker.specs.declared.Waits.{Waits}
 use Rattle.marker.specs.Steps.{awaited}
 
-module _ (w : Waits) (size : length (w .reply) ≡ 18) where
+module _ (w : Waits) (size : length (w .reply) ≡ 20) where
   pub none-left : w .end ≤ w .from → awaited w .left ≡ []
   none-left h = drop-of-length-le (take (w .end) (w .reply)) {i = w .from} (rw length-take (omega arith))
 
-  past : 18 ≤ w .from → awaited w .left ≡ []
+  past : 20 ≤ w .from → awaited w .left ≡ []
   past h = drop-of-length-le (take (w .end) (w .reply)) {i = w .from} (rw length-take (omega arith))
 
-  pub some-left : w .from < w .end → ltb (w .from) 18 ≡ some (awaited w .left)
-  some-left h = go (decLt (w .from) 18)
+  pub some-left : w .from < w .end → ltb (w .from) 20 ≡ some (awaited w .left)
+  some-left h = go (decLt (w .from) 20)
     where
-      go : Dec (w .from < 18) → ltb (w .from) 18 ≡ some (awaited w .left)
+      go : Dec (w .from < 20) → ltb (w .from) 20 ≡ some (awaited w .left)
       go (yes k) =
-          lt-ltb (w .from) 18 k ∙ sym (ap some (drop-cons (take (w .end) (w .reply)) (w .from) 0 (rw length-take (omega arith))))
-      go (no k) = le-ltb (w .from) 18 (omega arith) ∙ sym (ap some (past (omega arith)))
+          lt-ltb (w .from) 20 k ∙ sym (ap some (drop-cons (take (w .end) (w .reply)) (w .from) 0 (rw length-take (omega arith))))
+      go (no k) = le-ltb (w .from) 20 (omega arith) ∙ sym (ap some (past (omega arith)))
 
   pub next-left : w .from < w .end → getD (awaited w .left) 0 0 ≡ getD (w .reply) (w .from) 0
   next-left h = rw (getD-drop, add-zero, getD-take (w .end) (w .reply) (w .from) 0 h)
 
-  pub next-past : 18 ≤ w .from → getD (awaited w .left) 0 0 ≡ 0
+  pub next-past : 20 ≤ w .from → getD (awaited w .left) 0 0 ≡ 0
   next-past h = rw (past h)
 
   pub more-left : drop (w .from + 1) (take (w .end) (w .reply)) ≡ drop 1 (awaited w .left)

@@ -15,8 +15,9 @@ mod reply;
 mod step;
 
 // The bytes of a reply that are still to come are those of `reply` from `from` to `end`; none is to come later than `latest`.
+// A reply has at most 18 bytes. The array has 20, since the compiled code copies 16 and 4 bytes faster than 18.
 struct Waits {
-    reply: [u8; 18],
+    reply: [u8; 20],
     from: usize,
     end: usize,
     latest: u64,
@@ -57,7 +58,7 @@ impl Marker {
         Marker {
             deck: Deck::power_on(),
             waits: Waits {
-                reply: [0u8; 18],
+                reply: [0u8; 20],
                 from: 0,
                 end: 0,
                 latest: 0,

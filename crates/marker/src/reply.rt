@@ -15,7 +15,7 @@ impl Waits {
         if self.end <= self.from {
             return false;
         }
-        self.from < 18
+        self.from < 20
     }
 
     // The next byte, 0 if there is none.
@@ -26,7 +26,7 @@ impl Waits {
             return 0;
         }
         let from = self.from;
-        if from < 18 {
+        if from < 20 {
             return self.reply[from];
         }
         0
@@ -45,7 +45,7 @@ impl Waits {
     }
 
     // The deck has sent a reply, which stands at the front of the output, or none.
-    pub(super) fn after(self, sent: Sent, out: [u8; 18]) -> Waits
+    pub(super) fn after(self, sent: Sent, out: [u8; 20]) -> Waits
         requires { ⌜ sent .due < 2 ^ 48 ⌝ }
         ensures { λ r. ⌜ awaited r ≡ heard sent out (awaited self) ⌝ }
     {

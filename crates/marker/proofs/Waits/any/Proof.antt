@@ -6,7 +6,7 @@ use Rattle.marker.proofs.Left.{none-left, some-left}
 use Rattle.marker.proofs.Waits.any.Statement.{statement}
 use Rattle.marker.proofs.Waits.any.Tie as tie
 
-long : (c : tie.Start) → length (c .args .self .reply) ≡ 18
+long : (c : tie.Start) → length (c .args .self .reply) ≡ 20
 long c = simp length-map at (c .good .0 .1 .1 .0 .1 .0 .1)
 
 returns : tie.Need-returns

@@ -8,7 +8,7 @@ use borrow.Author.Needs.{needs}
 use Rattle.marker.proofs.Waits.next.Statement.{statement}
 use Rattle.marker.proofs.Waits.next.Tie as tie
 
-long : (c : tie.Start) → length (c .args .t1 .reply) ≡ 18
+long : (c : tie.Start) → length (c .args .t1 .reply) ≡ 20
 long c = simp length-map at (c .good .0 .1 .1 .0 .1 .0 .1)
 
 returns : tie.Need-returns

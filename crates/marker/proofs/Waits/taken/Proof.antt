@@ -9,7 +9,7 @@ use borrow.Author.Needs.{needs}
 use Rattle.marker.proofs.Waits.taken.Statement.{statement}
 use Rattle.marker.proofs.Waits.taken.Tie as tie
 
-long : (c : tie.Start) → length (c .args .self .reply) ≡ 18
+long : (c : tie.Start) → length (c .args .self .reply) ≡ 20
 long c = simp length-map at (c .good .0 .1 .1 .0 .1 .0 .1)
 
 add-self : tie.Need-add-self
