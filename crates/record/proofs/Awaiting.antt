@@ -6,7 +6,7 @@ use mathlib.Core.List.{List, [], _∷_, _++_, append-assoc}
 use lib.Dec.{T}
 use lib.ListN.{length}
 use Rattle.deck.specs.Line.{Deck, deck, atPowerOn, looked}
-use Rattle.deck.proofs.Steps.{look-early}
+use Rattle.deck.proofs.Steps.{look-shut, look-early}
 use Rattle.deck.proofs.Cases.{looked-late}
 use Rattle.record.specs.declared.Entry.{Entry}
 use Rattle.record.specs.Entries.{run, lastTime}
@@ -18,7 +18,7 @@ use Rattle.record.specs.Machine.{Waiting, waiting, some, await, peek}
 use Rattle.record.proofs.Readings.{waits, deckNow, waitingNow, PassesNow, waits-append}
 use Rattle.record.proofs.Coming.{deadline, QuietFrom}
 use Rattle.record.proofs.Turned.{Turned, Whole, begun-at, cut-run}
-use Rattle.record.proofs.Sounds.{looked-rest, awaited-is}
+use Rattle.record.proofs.Sounds.{awaited-is}
 use Rattle.record.proofs.Sane.{Sane, sane-now}
 
 -- ---- a reading of the rules agrees with the automaton
@@ -77,7 +77,7 @@ shut-while-awaited d w t u z h = go (d .block) z h
     with o = deck o (d .last) (d .free) (d .settings)
 
     go : (o : List ℕ) → Sane u (with o) w → T (some (await (looked (with o) t .replies) w .left)) → looked (with o) t .deck .block ≡ []
-    go [] z h = rw (looked-rest (with []) t refl)
+    go [] z h = rw (look-shut (with []) t refl)
     go (x ∷ o) z h = late (le-or-lt t (d .last + 10000))
       where
         late : (t ≤ d .last + 10000) ⊎ (d .last + 10000 < t) → looked (with (x ∷ o)) t .deck .block ≡ []

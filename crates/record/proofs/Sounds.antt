@@ -5,7 +5,7 @@ use mathlib.Core.Logic.{_⊎_, inl, inr}
 use mathlib.Core.List.{List, [], _∷_, _++_, append-assoc, append-nil, cons≢nil}
 use native.Mathlib.Omega.{arith}
 use Rattle.settings.specs.Settings.{powerOn}
-use Rattle.deck.specs.Line.{look, Deck, deck, atPowerOn, Reply, silently, looked}
+use Rattle.deck.specs.Line.{look, Deck, atPowerOn, Reply, silently, looked}
 use Rattle.deck.proofs.Steps.{look-shut, acted-other}
 use Rattle.record.specs.declared.Entry.{Entry}
 use Rattle.record.specs.Entries.{run, said, keep, isController, isDeck, ofKind, controller, fromDeck, contents, lastTime, All}
@@ -60,15 +60,9 @@ turn-of-piece d span rest end p z =
     }
 
 -- a deck with no block open
-pub looked-rest : (d : Deck) (t : ℕ) → d .block ≡ [] → looked d t ≡ silently d
-looked-rest d t p =
-    subst
-    (λ (o : List ℕ). looked (deck o (d .last) (d .free) (d .settings)) t ≡ silently (deck o (d .last) (d .free) (d .settings)))
-    (sym p) (look-shut (deck [] (d .last) (d .free) (d .settings)) t refl)
-
 said-rest : (d : Deck) (t : ℕ) → d .block ≡ [] → said d (lookAt t ∷ []) ≡ []
 unfolding said
-said-rest d t p = said-silent [] d d (lookAt t) (looked-rest d t p) (acted-other d (look t) tt)
+said-rest d t p = said-silent [] d d (lookAt t) (look-shut d t p) (acted-other d (look t) tt)
 
 turns-of-pieces : (ss : List (List Entry)) (d : Deck) (t : ℕ) → Pieces d ss t [] → run d (concat ss) .block ≡ [] → Turns d ss []
 unfolding said
@@ -137,7 +131,7 @@ accepted-sound es p z =
     t = lastTime 0 es
 
     q : looked (deckNow es) t ≡ silently (deckNow es)
-    q = looked-rest (deckNow es) t (z .shut)
+    q = look-shut (deckNow es) t (z .shut)
 
     u : ShutParts atPowerOn 0 [] 0 es t []
     u = parts es t [] (record { passes = p; shut = rw q (z .shut); leaves = rw q (z .left); late = omega arith })
