@@ -5,18 +5,18 @@ use mathlib.Core.Bool.{Bool, true, false, cond}
 use mathlib.Core.List.{List, [], _∷_, _++_, append-nil}
 use mathlib.Core.Logic.{⊎-elim}
 use native.Mathlib.Omega.{arith}
-use borrow.Author.Tests.{le-ltb, lt-leb, ne-eqb}
+use borrow.Author.Tests.{eq-eqb, ne-eqb}
 use lib.Dec.{leb}
 use lib.ListN.{length, drop}
 use lib.Seq.{take-append-seam}
-use Rattle.timecode.specs.Time.{day}
 use Rattle.execute.specs.Execute.{execute}
 use Rattle.execute.proofs.Replies.{reply-long}
 use Rattle.deck.specs.declared.Answer.{Answer as Returned}
 use Rattle.deck.specs.Line.{Event, byte, look, position, cassette, timeOf, Deck, Reply, Answer, silently, replied, taken}
 use Rattle.deck.specs.Line.{size, deck, looked, acted, answers}
-use Rattle.deck.specs.Calls.{flagsFit, refusal, number, told, replyBytes, Call, takenCall, call, view, seen, Answers}
+use Rattle.deck.specs.Calls.{number, told, replyBytes, Call, takenCall, view, seen, Answers}
 use Rattle.deck.proofs.Steps.{look-alone, look-cases, look-late, byte-cases, acted-byte, acted-other, answers-soon}
+use Rattle.deck.proofs.Numbers.{call-is}
 use Rattle.record.specs.Machine.{Waiting, await}
 use Rattle.marker.specs.declared.Marker.{Marker}
 use Rattle.marker.specs.Steps.{awaited, heard, Acts}
@@ -79,17 +79,10 @@ hears t (r ∷ s ∷ rs) w out b = absurd b
 
 -- ---- a call that is not refused
 
-pub unrefused : (room clock time flags place : ℕ) → room ≡ 20 → clock ≤ time → time < 2 ^ 48 → flagsFit flags ≡ true → place < day
-    → refusal room clock time flags place ≡ 0
-unfolding refusal
-unrefused room clock time flags place r c t f p =
-    simp (le-ltb room 18 (omega arith), le-ltb 281_474_976_710_655 time (omega arith), le-ltb time clock c, f, lt-leb day place p)
-
 module _ (m : Marker) (e : Event) (out exit : List ℕ) (q : Returned) (x : Answers (m .deck) e out q exit)
     (z : number (length out) (m .deck .clock) e ≡ 0) (b : Brief (timeOf e) (answers (view (m .deck)) e .replies)) where
   seen-taken : seen q exit ≡ takenCall (timeOf e) (answers (view (m .deck)) e) out
-  unfolding call
-  seen-taken = x .seen-is ∙ rw z
+  seen-taken = x .seen-is ∙ call-is (m .deck .clock) (view (m .deck)) e out true (eq-eqb _ _ z)
 
   pub due-early : q .first .due ≤ timeOf e
   due-early = rw (ap (λ (k : Call). k .first .due) seen-taken) (told-due (timeOf e) (answers (view (m .deck)) e .replies) b)

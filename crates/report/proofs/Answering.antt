@@ -12,6 +12,7 @@ use Rattle.deck.specs.declared.Deck.{Deck as Held}
 use Rattle.deck.specs.declared.Answer.{Answer as Returned}
 use Rattle.deck.specs.Line.{Event, timeOf, Deck, Reply, answers, after, says}
 use Rattle.deck.specs.Calls.{number, told, replyBytes, Call, takenCall, refusedCall, call, view, seen, Answers}
+use Rattle.deck.proofs.Numbers.{call-is}
 use Rattle.record.specs.declared.Entry.{Entry}
 use Rattle.record.specs.Entries.{handed}
 use Rattle.report.specs.Text.{atLine, refused}
@@ -60,8 +61,8 @@ told-small (r ∷ s ∷ q ∷ rs) z = absurd z
 module _ (clock : ℕ) (d : Deck) (e : Event) (out : List ℕ) (room : length out ≡ 18) where
   pub call-lines : (k : ℕ) → callLines k (call clock d e out)
       ≡ cond (eqb (number 18 clock e) 0) (replyLines (says d e)) (atLine refused (number 18 clock e) k)
-  unfolding call callLines
-  call-lines k = rw room (go (eqb (number 18 clock e) 0) refl)
+  unfolding callLines
+  call-lines k = rw (call-is clock d e out (eqb (number (length out) clock e) 0) refl, room) (go (eqb (number 18 clock e) 0) refl)
     where
       go : (b : Bool) → eqb (number 18 clock e) 0 ≡ b
           → callLines k (cond b (takenCall (timeOf e) (answers d e) out) (refusedCall (number 18 clock e) clock d out))
@@ -71,8 +72,7 @@ module _ (clock : ℕ) (d : Deck) (e : Event) (out : List ℕ) (room : length ou
 
   pub call-stands : _≡_ {A = Standing} (record { clock = call clock d e out .clock; deck = call clock d e out .deck })
       (cond (eqb (number 18 clock e) 0) (record { clock = timeOf e; deck = after d e }) (record { clock = clock; deck = d }))
-  unfolding call
-  call-stands = rw room (go (eqb (number 18 clock e) 0))
+  call-stands = rw (call-is clock d e out (eqb (number (length out) clock e) 0) refl, room) (go (eqb (number 18 clock e) 0))
     where
       at : Call → Standing
       at c = record { clock = c .clock; deck = c .deck }
@@ -83,8 +83,7 @@ module _ (clock : ℕ) (d : Deck) (e : Event) (out : List ℕ) (room : length ou
       go false = refl
 
   pub call-small : call clock d e out .first .len + call clock d e out .second .len ≤ 18
-  unfolding call
-  call-small = rw room (go (eqb (number 18 clock e) 0))
+  call-small = rw (call-is clock d e out (eqb (number (length out) clock e) 0) refl, room) (go (eqb (number 18 clock e) 0))
     where
       go : (b : Bool) → let c = cond b (takenCall (timeOf e) (answers d e) out) (refusedCall (number 18 clock e) clock d out) in
           c .first .len + c .second .len ≤ 18

@@ -4,7 +4,8 @@ use native.Mathlib.Omega.{arith}
 use borrow.Author.Needs.{needs}
 use Rattle.deck.specs.Line.{Event, cassette, answers}
 use Rattle.deck.specs.Calls.{view, number}
-use Rattle.marker.proofs.Answered.{Brief, brief-soon, unrefused, due-early, acts}
+use Rattle.deck.proofs.Numbers.{unrefused}
+use Rattle.marker.proofs.Answered.{Brief, brief-soon, due-early, acts}
 use Rattle.marker.proofs.Marker.loaded.Statement.{statement}
 use Rattle.marker.proofs.Marker.loaded.Tie as tie
 
@@ -12,7 +13,7 @@ abbrev event : tie.Start → Event
 event c = cassette (c .args .time)
 
 taken : (c : tie.Start) → number 20 (c .args .self .deck .clock) (event c) ≡ 0
-taken c = unrefused 20 _ _ 0 0 refl (omega (arith, c .pre .0)) (c .pre .1) refl (omega arith)
+taken c = unrefused 20 _ _ 0 0 (omega arith) (omega (arith, c .pre .0)) (c .pre .1) refl (omega arith)
 
 brief : (c : tie.Start) → Brief (c .args .time) (answers (view (c .args .self .deck)) (event c) .replies)
 brief c = brief-soon (view (c .args .self .deck)) (event c) (c .pre .2)

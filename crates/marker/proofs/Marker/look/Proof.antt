@@ -6,7 +6,8 @@ use Rattle.deck.specs.Line.{Event, look, Answer, answers}
 use Rattle.deck.specs.Calls.{view, number}
 use Rattle.deck.proofs.Steps.{look-alone}
 use Rattle.marker.specs.Steps.{Acts}
-use Rattle.marker.proofs.Answered.{Brief, brief-look, unrefused, due-early, acts}
+use Rattle.deck.proofs.Numbers.{unrefused}
+use Rattle.marker.proofs.Answered.{Brief, brief-look, due-early, acts}
 use Rattle.marker.proofs.Marker.look.Statement.{statement}
 use Rattle.marker.proofs.Marker.look.Tie as tie
 
@@ -14,7 +15,7 @@ abbrev event : tie.Start → Event
 event c = look (c .args .time)
 
 taken : (c : tie.Start) → number 20 (c .args .self .deck .clock) (event c) ≡ 0
-taken c = unrefused 20 _ _ 0 0 refl (c .pre .0) (c .pre .1) refl (omega arith)
+taken c = unrefused 20 _ _ 0 0 (omega arith) (c .pre .0) (c .pre .1) refl (omega arith)
 
 brief : (c : tie.Start) → Brief (c .args .time) (answers (view (c .args .self .deck)) (event c) .replies)
 brief c = brief-look (view (c .args .self .deck)) (c .args .time)

@@ -4,7 +4,8 @@ use native.Mathlib.Omega.{arith}
 use borrow.Author.Needs.{needs}
 use Rattle.deck.specs.Line.{Event, position, answers}
 use Rattle.deck.specs.Calls.{view, number}
-use Rattle.marker.proofs.Answered.{Brief, brief-soon, unrefused, due-early, acts}
+use Rattle.deck.proofs.Numbers.{unrefused}
+use Rattle.marker.proofs.Answered.{Brief, brief-soon, due-early, acts}
 use Rattle.marker.proofs.Marker.moved.Statement.{statement}
 use Rattle.marker.proofs.Marker.moved.Tie as tie
 
@@ -12,7 +13,7 @@ abbrev event : tie.Start → Event
 event c = position (c .args .time) (c .args .place)
 
 taken : (c : tie.Start) → number 20 (c .args .self .deck .clock) (event c) ≡ 0
-taken c = unrefused 20 _ _ 0 (c .args .place) refl (omega (arith, c .pre .0)) (c .pre .1) refl (c .pre .2)
+taken c = unrefused 20 _ _ 0 (c .args .place) (omega arith) (omega (arith, c .pre .0)) (c .pre .1) refl (c .pre .2)
 
 brief : (c : tie.Start) → Brief (c .args .time) (answers (view (c .args .self .deck)) (event c) .replies)
 brief c = brief-soon (view (c .args .self .deck)) (event c) (c .pre .3)
