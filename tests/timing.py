@@ -1,17 +1,20 @@
 #!/usr/bin/env python3
-"""Makes crates/timing/stdin, a sound record of the greatest length with every command in it, and stdout, what the loops must count.
+"""Makes stdin and stdout of the two programs that are timed: what they read, and what their loops must count.
 
-Run at the top of the repository; `--check` compares the two files instead of writing them.
+crates/timing has a sound record of the greatest length with every command in it, crates/timing_deck the bytes of one block for every
+command. Run at the top of the repository; `--check` compares the files instead of writing them.
 """
 from itertools import cycle
 
-from deck import block
+from deck import Deck, block
 from deck_cases import FIT
 from mark_cases import Line
 from marks import LONGEST, POSITION, SOUND, TAKEN, mark, record_of
 from stored import store
 
 ROUNDS = 1_000  # as in crates/timing/src/main.rt
+DECK_ROUNDS = 20_000  # as in crates/timing_deck/src/main.rt
+EJECT = "20.0F"
 
 
 def longest():
@@ -26,11 +29,33 @@ def longest():
     return record_of(whole + filling)
 
 
-def main():
+def blocks():
+    """One block for every command but eject: after it nothing moves."""
+    return [block(code, fit[-1]) for code, fit in FIT.items() if code != EJECT]
+
+
+def replies(sent, rounds):
+    """How many replies a deck gives; a NAK would leave the rest of them out, for its quiet."""
+    deck = Deck()
+    return sum(len(deck.byte(time, content)[1]) for time in range(rounds) for content in sent)
+
+
+def marker_files():
     record = longest()
     no, fault, place, starts = mark(record, 5_461)
     assert (no, fault, place) == (TAKEN, SOUND, 5_461) and len(record) == LONGEST
-    store("timing", {"stdin": record, "stdout": f"turns {len(starts) * ROUNDS}\n".encode()}, f"{len(starts)} turns")
+    return {"timing/stdin": record, "timing/stdout": f"turns {len(starts) * ROUNDS}\n".encode()}
+
+
+def deck_files():
+    each = blocks()
+    sent = b"".join(each)
+    assert replies(sent, rounds=2) == 2 * len(each)
+    return {"timing_deck/stdin": sent, "timing_deck/stdout": f"replies {len(each) * DECK_ROUNDS}\n".encode()}
+
+
+def main():
+    store(".", marker_files() | deck_files(), "timing and timing_deck")  # in one call, as it ends the script where it checks
 
 
 if __name__ == "__main__":

@@ -2,7 +2,7 @@
 use settings::Mode;
 use settings::Which;
 ghost use mathlib.Core.Path.{_≡_};
-ghost use Prim.Native.Nat.{_<_};
+ghost use Prim.Native.Nat.{_+_, _*_, _<_};
 ghost use lib.ListN.{getD};
 ghost use Rattle.command.specs.Commands.{commands, lookup, noCommand};
 
@@ -236,15 +236,40 @@ fn rows() -> [Command; 36]
     COMMANDS
 }
 
-// The table is fetched once: the compiled code builds it wherever it is named.
+// The two bytes as one number.
+fn code(first: u8, command: u8) -> u32
+    ensures { λ r. ⌜ r ≡ first * 256 + command ⌝ }
+{
+    first as u32 * 256 + command as u32
+}
+
+// The table is fetched once: the compiled code builds it wherever it is named. Loops of twelve rows are unrolled, so that it need not
+// be built at all: each row is known, and the search is one switch on the code.
 pub fn find(first: u8, command: u8) -> ReplyKind
     ensures { λ r. ⌜ r ≡ lookup commands first command ⌝ }
 {
+    let wanted = code(first, command);
     let table = rows();
     let mut i: usize = 0;
+    while i < 12 {
+        let c = table[i];
+        if code(c.first, c.command) == wanted {
+            let kind = c.kind;
+            return kind;
+        }
+        i += 1;
+    }
+    while i < 24 {
+        let c = table[i];
+        if code(c.first, c.command) == wanted {
+            let kind = c.kind;
+            return kind;
+        }
+        i += 1;
+    }
     while i < 36 {
         let c = table[i];
-        if c.first == first && c.command == command {
+        if code(c.first, c.command) == wanted {
             let kind = c.kind;
             return kind;
         }

@@ -26,13 +26,13 @@ exceeds t last gap (no h) = le-ltb gap (t - last) (omega arith) ∙ sym (le-ltb 
 pub past : (t last gap : ℕ) → ltb gap (t - last) ≡ ltb (last + gap) t
 past t last gap = exceeds t last gap (decLt (last + gap) t)
 
-right-true : (a b : Bool) → a && b ≡ true → b ≡ true
-right-true true b e = e
-right-true false b e = cc
+pub both-true : (a b : Bool) → a && b ≡ true → (a ≡ true) × (b ≡ true)
+both-true true b e = (refl, e)
+both-true false b e = (cc, cc)
 
 -- the time-out NAK is due before it is found
 pub overdue : (d : Deck) (t : ℕ) → timedOut d t ≡ true → d .last + 10000 < t
-overdue d t e = ltb-true (d .last + 10000) t (right-true (isOpen (d .block)) _ e)
+overdue d t e = ltb-true (d .last + 10000) t (both-true (isOpen (d .block)) _ e .1)
 
 -- what a time-out comes to
 abbrev pub missed : Deck → Answer

@@ -9,6 +9,8 @@ pub mod Looks
 pub mod Replies
 pub mod Examples
 -- of the code's deck and calls
+pub mod Made
+pub mod Runs
 pub mod Flags
 pub mod Late
 pub mod Found
@@ -16,3 +18,4 @@ pub mod Held
 pub mod Output
 pub mod Seen
 pub mod Numbers
+pub mod Joining

@@ -11,10 +11,10 @@ use Rattle.timecode.specs.Time.{day}
 use Rattle.deck.specs.declared.Answer.{Answer as Returned}
 use Rattle.deck.specs.declared.Deck.{Deck as Held}
 use Rattle.deck.specs.Line.{Event, Deck, timeOf, answers}
-use Rattle.deck.specs.Calls.{Answers, Call, flagsFit, refusal, number, told, view, seen, takenCall, refusedCall, call}
+use Rattle.deck.specs.Calls.{Made, Answers, Call, flagsFit, refusal, number, told, view, seen, takenCall, refusedCall, call}
 use Rattle.deck.proofs.Seen.{silent}
 
-passed : (n m : ℕ) (a : Bool) → cond a (suc n) m ≡ 0 → (a ≡ false) × (m ≡ 0)
+pub passed : (n m : ℕ) (a : Bool) → cond a (suc n) m ≡ 0 → (a ≡ false) × (m ≡ 0)
 passed n m true e = (cc, cc)
 passed n m false e = (refl, e)
 
@@ -29,15 +29,16 @@ module _ (d : Held) (e : Event) (entry : List ℕ) (n : ℕ) (f : n ≡ number (
       (omega (arith, ltb-false 281_474_976_710_655 (timeOf e) (q .0)), ltb-false (length entry) 18 (p .0))
 
   pub takes : (r : Returned) (exit : List ℕ) → n ≡ 0
-      → seen r exit ≡ takenCall (timeOf e) (answers (view d) e) entry → Answers d e entry r exit
+      → seen r exit ≡ takenCall (timeOf e) (answers (view d) e) entry → (Made d → Made (r .deck)) → Answers d e entry r exit
   unfolding call
-  takes r exit z s =
-      record { seen-is = rw (← f, z) s; same = λ o. absurd (o (ap (λ (k : Call). k .no) s)) }
+  takes r exit z s m =
+      record { seen-is = rw (← f, z) s; same = λ o. absurd (o (ap (λ (k : Call). k .no) s)); made = m }
 
   pub refuses : (r : Returned) → (n ≡ 0 → ⊥)
       → (r .no ≡ n) × (r .deck ≡ d) × (r .first ≡ told []) × (r .second ≡ told []) → Answers d e entry r entry
   unfolding call
-  refuses r z s = record { seen-is = rw (← f, ne-eqb n 0 z) (silent n d r entry s); same = λ _. s .1 }
+  refuses r z s =
+      record { seen-is = rw (← f, ne-eqb n 0 z) (silent n d r entry s); same = λ _. s .1; made = λ m. rw (s .1) m }
 
 -- ---- for those who call
 

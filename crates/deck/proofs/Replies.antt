@@ -2,17 +2,22 @@
 use mathlib.Core.List.{List, [], _∷_, _++_}
 use mathlib.Core.Logic.{⊎-elim}
 use mathlib.Core.Path.{refl}
-use Prim.Native.Nat.{ℕ, _+_}
+use Prim.Native.Nat.{ℕ, _+_, _≤_}
 use native.Mathlib.Omega.{arith}
-use Rattle.execute.specs.Replies.{timeOut}
+use lib.ListN.{length}
+use Rattle.execute.specs.Replies.{nak, timeOut}
+use Rattle.execute.proofs.Replies.{reply-long}
 use Rattle.deck.specs.Line.{Event, byte, look, position, cassette, timeOf, Deck, deck, taken, acted, says}
 use Rattle.deck.specs.Events.{nakAt, Few, none, one, two}
 use Rattle.deck.proofs.Steps.{look-shut, look-cases, byte-cases, taken-more, taken-cases, acted-byte, acted-other}
 use Rattle.deck.proofs.Steps.{answers-soon, answers-late}
 
+nak-long : (why : ℕ) → 3 ≤ length (nak why)
+nak-long why = omega arith
+
 module _ (d : Deck) where
   taken-few : (e : Event) (block : List ℕ) (t : ℕ) → Few d e (taken d block t .replies)
-  taken-few e block t = ⊎-elim (λ p. rw p (one _)) (λ p. rw p none) (taken-cases d block t)
+  taken-few e block t = ⊎-elim (λ p. rw p (one _ (reply-long (d .settings) block))) (λ p. rw p none) (taken-cases d block t)
 
   -- with no time-out before it
   soon : (e : Event) → Few d e (acted d e .replies)
@@ -20,7 +25,7 @@ module _ (d : Deck) where
       rw (acted-byte d t b flags)
       (⊎-elim
       (λ p. rw p none)
-      (⊎-elim (λ p. rw p (taken-few (byte t b flags) (d .block ++ b ∷ []) t)) (λ p. rw (p .1) (one _)))
+      (⊎-elim (λ p. rw p (taken-few (byte t b flags) (d .block ++ b ∷ []) t)) (λ p. rw (p .1) (one _ (nak-long flags))))
       (byte-cases d t b flags))
   soon (look t) = rw (acted-other d (look t) tt) none
   soon (position t p) = rw (acted-other d (position t p) tt) none
@@ -34,12 +39,12 @@ module _ (d : Deck) where
   late (byte t b flags) =
       rw (acted-byte void t b flags)
       (⊎-elim
-      (λ p. rw p (one _))
-      (⊎-elim (λ p. rw (p, taken-more void (b ∷ []) t (omega arith)) (one _)) (λ p. rw (p .1) (two (p .0))))
+      (λ p. rw p (one _ (nak-long timeOut)))
+      (⊎-elim (λ p. rw (p, taken-more void (b ∷ []) t (omega arith)) (one _ (nak-long timeOut))) (λ p. rw (p .1) (two (p .0))))
       (byte-cases void t b flags))
-  late (look t) = rw (acted-other void (look t) tt) (one _)
-  late (position t p) = rw (acted-other void (position t p) tt) (one _)
-  late (cassette t) = rw (acted-other void (cassette t) tt) (one _)
+  late (look t) = rw (acted-other void (look t) tt) (one _ (nak-long timeOut))
+  late (position t p) = rw (acted-other void (position t p) tt) (one _ (nak-long timeOut))
+  late (cassette t) = rw (acted-other void (cassette t) tt) (one _ (nak-long timeOut))
 
   pub few-replies : (e : Event) → Few d e (says d e)
   few-replies e =

@@ -6,7 +6,7 @@ use Rattle.settings.specs.declared.Settings.{Settings}
 use Rattle.deck.specs.declared.Answer.{Answer as Returned}
 use Rattle.deck.specs.declared.Deck.{Deck as Held}
 use Rattle.deck.specs.Line.{Answer, withSettings}
-use Rattle.deck.specs.Calls.{Call, view, told, seen, takenCall, refusedCall}
+use Rattle.deck.specs.Calls.{Call, view, Made, told, seen, takenCall, refusedCall}
 
 -- two calls are equal if their fields are
 pub same-call : {j k : Call} → j .no ≡ k .no → j .clock ≡ k .clock → j .deck ≡ k .deck
@@ -23,7 +23,7 @@ silent n d r out e = same-call (e .0) (rw (e .1)) (rw (e .1)) (e .2) (e .3) refl
 pub resettled : (f : Settings → Settings) (clock : ℕ) (a : Answer) (entry exit : List ℕ) (q r : Returned)
     → seen q exit ≡ takenCall clock a entry
     → (r .no ≡ q .no) × (r .first ≡ q .first) × (r .second ≡ q .second) × (r .deck .clock ≡ q .deck .clock)
-    × (view (r .deck) ≡ withSettings (view (q .deck)) (f (q .deck .settings)))
+    × (view (r .deck) ≡ withSettings (view (q .deck)) (f (q .deck .settings))) × (Made (q .deck) → Made (r .deck))
     → seen r exit ≡ takenCall clock (record { deck = withSettings (a .deck) (f (a .deck .settings)); replies = a .replies }) entry
 resettled f clock a entry exit q r e w =
     same-call (w .0 ∙ ap (λ (k : Call). k .no) e) (w .3 ∙ ap (λ (k : Call). k .clock) e)

@@ -2,9 +2,10 @@
 use mathlib.Core.Bool.{Bool, cond, not, _&&_}
 use mathlib.Core.List.{List, [], _∷_, _++_}
 use mathlib.Core.Path.{_≡_}
-use Prim.Native.Nat.{ℕ, _-_, _%_, _^_, min}
+use Prim.Native.Nat.{ℕ, _%_, _≤_, min}
 use lib.Dec.{eqb, leb, ltb}
-use lib.ListN.{length, take, drop, replicate}
+use lib.ListN.{length, take, drop}
+use Rattle.packed.specs.Packed.{packed, unpacked}
 use Rattle.settings.specs.Settings.{powerOn}
 use Rattle.timecode.specs.Time.{day}
 use Rattle.deck.specs.declared.Deck.{Deck as Held}
@@ -87,14 +88,19 @@ call clock d e out =
 
 -- ---- the code's deck and answer
 
--- The code keeps the open block in an array and a count; what stands in the array past the count is free. A deck that no
--- event could have made is a value too: at most 17 bytes count as an open block.
+-- The code keeps the open block packed in numbers, with a count. A deck that no event could have made is a value too: at most
+-- 17 bytes count as an open block.
 abbrev pub view : Held → Deck
-view d = deck (take (min (d .held) 17) (d .block)) (d .last) (d .free) (d .settings)
+view d = deck (take (min (d .held) 17) (unpacked (d .block))) (d .last) (d .free) (d .settings)
 
 -- the deck at power-on; "The clock starts at 0."
 abbrev pub newDeck : Held
-newDeck = record { clock = 0; last = 0; free = 0; held = 0; block = replicate 18 0; settings = powerOn }
+newDeck = record { clock = 0; last = 0; free = 0; held = 0; block = packed []; settings = powerOn }
+
+-- a deck as events make it: at most 17 bytes are held, and the numbers have nothing but zeros past them
+pub record Made (d : Held) : Type 0 where
+  pub few : d .held ≤ 17
+  pub zeros : d .block ≡ packed (view d .block)
 
 -- what a caller sees of an answer and the output
 abbrev pub seen : Returned → List ℕ → Call
@@ -108,7 +114,9 @@ seen r out =
       out = out;
     }
 
--- the contract of the four events: what is seen is the call; and a refused call hands back the deck itself
+-- the contract of the four events: what is seen is the call; a refused call hands back the deck itself; and of a deck that
+-- events made comes another, so that nothing of it is left free
 pub record Answers (d : Held) (e : Event) (entry : List ℕ) (r : Returned) (exit : List ℕ) : Type 0 where
   pub seen-is : seen r exit ≡ call (d .clock) (view d) e entry
   pub same : (r .no ≡ 0 → ⊥) → r .deck ≡ d
+  pub made : Made d → Made (r .deck)

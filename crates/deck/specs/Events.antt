@@ -86,9 +86,9 @@ withoutLooks (cassette t ∷ es) = cassette t ∷ withoutLooks es
 
 -- ---- the replies to one event
 
--- nothing, one reply, or two NAKs: the time-out's, and then that for the flagged byte
+-- nothing, one reply (the shortest blocks have 3 bytes), or two NAKs: the time-out's, and then that for the flagged byte
 pub data Few (d : Deck) : Event → List Reply → Type 0 where
   none : {e : Event} → Few d e []
-  one : {e : Event} (r : Reply) → Few d e (r ∷ [])
+  one : {e : Event} (r : Reply) → 3 ≤ length (r .bytes) → Few d e (r ∷ [])
   two : {t b flags : ℕ} → (flags ≡ 0 → ⊥)
       → Few d (byte t b flags) (nakAt timeOut (d .last + 10001) ∷ nakAt flags t ∷ [])

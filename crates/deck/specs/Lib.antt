@@ -2,3 +2,5 @@
 pub mod Line
 pub mod Events
 pub mod Calls
+pub mod Joins
+pub mod Runs

@@ -1,8 +1,11 @@
 // The deck: the four events, with time-out and quiet.
+use packed::Packed;
 use settings::Settings;
 ghost use mathlib.Core.Path.{_≡_};
+ghost use Prim.Native.Nat.{ℕ};
 ghost use Rattle.deck.specs.Line.{byte, look, position, cassette};
-ghost use Rattle.deck.specs.Calls.{Answers, newDeck};
+ghost use Rattle.deck.specs.Calls.{Answers, view, newDeck};
+ghost use Rattle.deck.specs.Joins.{grows, joining};
 
 mod line;
 mod number;
@@ -16,7 +19,7 @@ pub struct Deck {
     pub last: u64,
     pub free: u64,
     pub held: usize,
-    pub block: [u8; 18],
+    pub block: Packed,
     pub settings: Settings,
 }
 
@@ -34,6 +37,12 @@ pub struct Answer {
     pub second: Sent,
 }
 
+// What `join` did: whether the byte was taken, and the deck.
+pub struct Joined {
+    pub taken: bool,
+    pub deck: Deck,
+}
+
 impl Deck {
     pub fn power_on() -> Deck
         ensures { λ r. ⌜ r ≡ newDeck ⌝ }
@@ -43,7 +52,7 @@ impl Deck {
             last: 0,
             free: 0,
             held: 0,
-            block: [0u8; 18],
+            block: Packed::none(),
             settings: Settings::power_on(),
         }
     }
@@ -60,6 +69,51 @@ impl Deck {
             return self.late(time, content, flags, out);
         }
         self.heard(time, content, flags, out)
+    }
+
+    // A clean byte at this time, whatever its content, is heard, finds no time-out and does not fill the block.
+    fn grows(self, time: u64) -> bool
+        ensures { λ r. ⌜ ((content : ℕ) → r ≡ grows (view self) time content) ⌝ }
+    {
+        if time < self.free {
+            return false;
+        }
+        if self.held == 0 {
+            return true;
+        }
+        if self.timed_out(time) {
+            return false;
+        }
+        let block = self.block;
+        self.held < line::size(block.at(0)) - 1
+    }
+
+    // A clean byte that goes into the open block and does nothing else: it is heard, finds no time-out and does not fill the block.
+    // Any other is not taken, and the deck is then as it was.
+    pub fn join(mut self, time: u64, content: u8) -> Joined
+        ensures { λ r. ⌜ r ≡ joining self time content ⌝ }
+    {
+        if number::refusal(18, self.clock, time, 0, 0) != 0 {
+            return Joined {
+                taken: false,
+                deck: self,
+            };
+        }
+        if !self.grows(time) {
+            return Joined {
+                taken: false,
+                deck: self,
+            };
+        }
+        let block = self.block;
+        self.block = block.put(self.held, content);
+        self.held += 1;
+        self.clock = time;
+        self.last = time;
+        Joined {
+            taken: true,
+            deck: self,
+        }
     }
 
     pub fn look(mut self, time: u64, out: &mut [u8]) -> Answer

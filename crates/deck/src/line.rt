@@ -2,20 +2,22 @@
 use super::Answer;
 use super::Deck;
 use super::Sent;
+use packed::Packed;
 use settings::Settings;
 ghost use mathlib.Core.Path.{_≡_};
 ghost use mathlib.Core.Bool.{true};
 ghost use mathlib.Core.List.{[], _∷_, _++_};
 ghost use Prim.Native.Nat.{_+_, _%_, _≤_, _<_, _^_, min};
 ghost use lib.ListN.{length, take};
+ghost use Rattle.packed.specs.Packed.{unpacked};
 ghost use Rattle.execute.specs.Execute.{execute};
 ghost use Rattle.deck.specs.Line.{byte, deck, timedOut, voided, looked, replied, taken, received, answers, withSettings};
-ghost use Rattle.deck.specs.Calls.{view, seen, told, takenCall};
+ghost use Rattle.deck.specs.Calls.{view, Made, seen, told, takenCall};
 
 const TIME_OUT: u8 = 0x80;
 
 // How many bytes the block has that begins with this byte.
-fn size(first: u8) -> usize
+pub(super) fn size(first: u8) -> usize
     ensures { λ r. ⌜ r ≡ first % 16 + 3 ⌝ }
 {
     (first & 15) as usize + 3
@@ -54,9 +56,10 @@ impl Deck {
     // No block is open, and a quiet begins if the NAK opens one.
     fn void(mut self, why: u8, due: u64) -> Deck
         requires { ⌜ due < 2 ^ 63 ⌝ }
-        ensures { λ r. ⌜ (view r ≡ voided (view self) why due .deck) × (r .clock ≡ self .clock) ⌝ }
+        ensures { λ r. ⌜ (view r ≡ voided (view self) why due .deck) × (r .clock ≡ self .clock) × Made r ⌝ }
     {
         self.held = 0;
+        self.block = Packed::none();
         if execute::opens_quiet(why) {
             self.free = due + 10001;
         }
@@ -65,7 +68,8 @@ impl Deck {
 
     fn nak(self, why: u8, due: u64, out: &mut [u8]) -> Answer
         requires { ⌜ (due < 2 ^ 63) × (18 ≤ length (now out)) ⌝ }
-        ensures { λ r. ⌜ seen r (now (out .exit)) ≡ takenCall (self .clock) (voided (view self) why due) (now (out .entry)) ⌝ }
+        ensures { λ r. ⌜ (seen r (now (out .exit)) ≡ takenCall (self .clock) (voided (view self) why due) (now (out .entry)))
+            × Made (r .deck) ⌝ }
     {
         let written = execute::nak(why, out);
         self.void(why, due).said(0, written.len, due)
@@ -74,7 +78,8 @@ impl Deck {
     // Time-out comes first.
     pub(super) fn looked(self, time: u64, out: &mut [u8]) -> Answer
         requires { ⌜ (time < 2 ^ 48) × (18 ≤ length (now out)) ⌝ }
-        ensures { λ r. ⌜ seen r (now (out .exit)) ≡ takenCall (self .clock) (looked (view self) time) (now (out .entry)) ⌝ }
+        ensures { λ r. ⌜ (seen r (now (out .exit)) ≡ takenCall (self .clock) (looked (view self) time) (now (out .entry)))
+            × (Made self → Made (r .deck)) ⌝ }
     {
         if self.timed_out(time) {
             return self.nak(TIME_OUT, self.last + 10001, out);
@@ -84,25 +89,28 @@ impl Deck {
 
     // The first byte of a block.
     fn begin(mut self, time: u64, content: u8) -> Deck
-        ensures { λ r. ⌜ (view r ≡ deck (content ∷ []) time (self .free) (self .settings)) × (r .clock ≡ self .clock) ⌝ }
+        ensures { λ r. ⌜ (view r ≡ deck (content ∷ []) time (self .free) (self .settings)) × (r .clock ≡ self .clock) × Made r ⌝ }
     {
-        self.block[0] = content;
+        let block = self.block;
+        self.block = block.put(0, content);
         self.held = 1;
         self.last = time;
         self
     }
 
-    // A full block: the first bytes of the array.
-    fn full(mut self, time: u64, count: usize, out: &mut [u8]) -> Answer
+    // A full block: the first of these bytes.
+    fn full(mut self, time: u64, block: Packed, count: usize, out: &mut [u8]) -> Answer
         requires { ⌜ (time < 2 ^ 48) × (count ≤ 18) × (18 ≤ length (now out)) ⌝ }
-        ensures { λ r. ⌜ seen r (now (out .exit))
-            ≡ takenCall (self .clock) (replied (view self) time (execute (self .settings) (take count (self .block)))) (now (out .entry)) ⌝ }
+        ensures { λ r. ⌜ (seen r (now (out .exit)) ≡ takenCall (self .clock)
+            (replied (view self) time (execute (self .settings) (take count (unpacked block)))) (now (out .entry)))
+            × Made (r .deck) ⌝ }
     {
-        let block = self.block;
+        let bytes = block.bytes();
         let settings = self.settings;
-        let done = execute::execute(settings, &block[..count], out);
+        let done = execute::execute(settings, &bytes[..count], out);
         let after = done.settings;
         self.held = 0;
+        self.block = Packed::none();
         self.last = time;
         self.settings = after;
         if done.quiets {
@@ -114,25 +122,29 @@ impl Deck {
     // A clean byte outside quiet.
     fn clean(mut self, time: u64, content: u8, out: &mut [u8]) -> Answer
         requires { ⌜ (time < 2 ^ 48) × (18 ≤ length (now out)) ⌝ }
-        ensures { λ r. ⌜ seen r (now (out .exit))
-            ≡ takenCall (self .clock) (taken (view self) (view self .block ++ content ∷ []) time) (now (out .entry)) ⌝ }
+        ensures { λ r. ⌜ (seen r (now (out .exit))
+            ≡ takenCall (self .clock) (taken (view self) (view self .block ++ content ∷ []) time) (now (out .entry)))
+            × Made (r .deck) ⌝ }
     {
         let at = if self.held < 17 { self.held } else { 17 };
-        self.block[at] = content;
+        let before = self.block;
+        let block = before.put(at, content);
         let count = at + 1;
-        if count < size(self.block[0]) {
+        if count < size(block.at(0)) {
+            self.block = block;
             self.held = count;
             self.last = time;
             return self.said(0, 0, 0);
         }
-        self.full(time, count, out)
+        self.full(time, block, count, out)
     }
 
     // A byte, where no time-out is due.
     pub(super) fn heard(self, time: u64, content: u8, flags: u8, out: &mut [u8]) -> Answer
         requires { ⌜ (time < 2 ^ 48) × (18 ≤ length (now out)) ⌝ }
-        ensures { λ r. ⌜ seen r (now (out .exit))
-            ≡ takenCall (self .clock) (received (view self) time content flags) (now (out .entry)) ⌝ }
+        ensures { λ r. ⌜ (seen r (now (out .exit))
+            ≡ takenCall (self .clock) (received (view self) time content flags) (now (out .entry)))
+            × (Made self → Made (r .deck)) ⌝ }
     {
         if time < self.free {
             return self.said(0, 0, 0);
@@ -146,8 +158,9 @@ impl Deck {
     // A byte that finds the time-out: it is in the quiet of the NAK, or gets a NAK of its own, or begins a block.
     pub(super) fn late(self, time: u64, content: u8, flags: u8, out: &mut [u8]) -> Answer
         requires { ⌜ (timedOut (view self) time ≡ true) × (time < 2 ^ 48) × (18 ≤ length (now out)) ⌝ }
-        ensures { λ r. ⌜ seen r (now (out .exit))
-            ≡ takenCall (self .clock) (answers (view self) (byte time content flags)) (now (out .entry)) ⌝ }
+        ensures { λ r. ⌜ (seen r (now (out .exit))
+            ≡ takenCall (self .clock) (answers (view self) (byte time content flags)) (now (out .entry)))
+            × Made (r .deck) ⌝ }
     {
         let answer = self.nak(TIME_OUT, self.last + 10001, out);
         let deck = answer.deck;
@@ -179,7 +192,8 @@ impl Deck {
 // The answer, with other settings in its deck.
 pub(super) fn with_settings(answer: Answer, settings: Settings) -> Answer
     ensures { λ r. ⌜ (r .no ≡ answer .no) × (r .first ≡ answer .first) × (r .second ≡ answer .second)
-        × (r .deck .clock ≡ answer .deck .clock) × (view (r .deck) ≡ withSettings (view (answer .deck)) settings) ⌝ }
+        × (r .deck .clock ≡ answer .deck .clock) × (view (r .deck) ≡ withSettings (view (answer .deck)) settings)
+        × (Made (answer .deck) → Made (r .deck)) ⌝ }
 {
     let mut deck = answer.deck;
     deck.settings = settings;

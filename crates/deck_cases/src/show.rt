@@ -5,6 +5,7 @@ use deck::Deck;
 use deck::Sent;
 use libc::STDOUT_FILENO;
 use settings::Point;
+use settings::Which;
 
 // What the lent output holds before a call.
 pub const FILL: u8 = 0xAA;
@@ -105,7 +106,8 @@ fn signed(v: i32) {
 
 // What the rules settle of a deck: clock, open block, status bytes, position, In, Out, speed.
 pub(super) fn state(d: Deck) {
-    let block = d.block;
+    let open = d.block;
+    let block = open.bytes();
     let settings = d.settings;
     let status = settings.status();
     text(b"deck");
@@ -117,9 +119,9 @@ pub(super) fn state(d: Deck) {
     text(b" at");
     number(settings.position as u64);
     text(b" in");
-    point(settings.inpoint);
+    point(settings.point(Which::In));
     text(b" out");
-    point(settings.outpoint);
+    point(settings.point(Which::Out));
     text(b" speed");
     signed(settings.speed);
     text(b"\n");

@@ -7,6 +7,7 @@ use native.Mathlib.Omega.{arith}
 use borrow.Author.Tests.{leb-true}
 use lib.Dec.{eqb, leb}
 use lib.ListN.{length, getD, take, length-take}
+use Rattle.packed.proofs.Bytes.{Bytes, by-place, front, joined}
 use Rattle.block.specs.Block.{firstByte, checksum, body, blockOf}
 use Rattle.block.specs.Read.{readNo, readData}
 use Rattle.block.proofs.RoundTrip.{block-number}
@@ -25,24 +26,6 @@ use Rattle.command.specs.Commands.{commands, lookup}
 use Rattle.effects.specs.Effects.{perform, fits}
 use Rattle.execute.specs.Replies.{Outcome, answered, acknowledged, refused, undefined, badChecksum}
 use Rattle.execute.specs.Execute.{pointCode, timeCode, within, carry, execute}
-
--- every number of the list is a byte
-abbrev pub Bytes : List ℕ → Type 0
-Bytes [] = Unit
-Bytes (b ∷ bytes) = (b < 256) × Bytes bytes
-
-by-place : (xs : List ℕ) → ((i : ℕ) → getD xs i 0 < 256) → Bytes xs
-by-place [] h = tt
-by-place (x ∷ xs) h = (h 0, by-place xs (λ i. h (suc i)))
-
-front : (n : ℕ) (xs : List ℕ) → Bytes xs → Bytes (take n xs)
-front zero xs h = tt
-front (suc n) [] h = tt
-front (suc n) (x ∷ xs) h = (h .0, front n xs (h .1))
-
-behind : (xs : List ℕ) (b : ℕ) → Bytes xs → b < 256 → Bytes (xs ++ b ∷ [])
-behind [] b h l = (l, tt)
-behind (x ∷ xs) b h l = (h .0, behind xs b (h .1) l)
 
 -- the bytes of a block of a group, a command and data that fit
 pub record IsReply (bytes : List ℕ) : Type 0 where
@@ -66,8 +49,8 @@ module _ (bytes : List ℕ) (r : IsReply bytes) where
   are-bytes =
       let first : firstByte (r .group) (length (r .content)) < 256 = let s = r .small in let f = r .few in omega arith in
       subst Bytes (sym (r .is))
-      (behind (body (r .group) (r .command) (r .content)) (checksum (body (r .group) (r .command) (r .content)))
-      (first, (r .code, r .each)) (omega arith))
+      (joined (body (r .group) (r .command) (r .content)) (checksum (body (r .group) (r .command) (r .content)) ∷ [])
+      (first, (r .code, r .each)) (omega arith, tt))
 
 either : (t : Bool) (o p : Outcome) → (t ≡ true → IsReply (o .bytes)) → IsReply (p .bytes) → IsReply (cond t o p .bytes)
 either true o p f g = f refl

@@ -53,5 +53,6 @@ pub fn execute(settings: Settings, bytes: &[u8], out: &mut [u8]) -> Executed
         return answers::refuse(settings, BAD_CHECKSUM, out);
     }
     let kind = command::find(bytes[0], header.command);
-    answers::carry(kind, settings, block::data(bytes), out)
+    let end = bytes.len() - 1;
+    answers::carry(kind, settings, &bytes[2..end], out)
 }

@@ -8,6 +8,7 @@ use lib.Bits.{bitAnd}
 use lib.Dec.{eqb, ltb}
 use Rattle.timecode.specs.Time.{day}
 use Rattle.deck.proofs.Flags.{fit, unfit}
+use Rattle.deck.proofs.Late.{both-true}
 use Rattle.record.specs.declared.Entry.{Entry}
 use Rattle.deck.specs.Calls.{flagsFit}
 use Rattle.record.specs.Entries.{fits, formed, isController, isDeck}
@@ -72,10 +73,6 @@ not-true false p = refl
 pub not-false : (b : Bool) → not b ≡ false → b ≡ true
 not-false true p = refl
 not-false false p = cc
-
-both-true : (a b : Bool) → a && b ≡ true → (a ≡ true) × (b ≡ true)
-both-true true b p = (refl, p)
-both-true false b p = (cc, cc)
 
 -- ---- what a well-formed entry has
 

@@ -1,5 +1,5 @@
 -- The loop over the entries: what is left of the record leads to the verdict on the whole.
-use Prim.Native.Nat.{ℕ, suc, _+_, _/_, _≤_, _<_}
+use Prim.Native.Nat.{ℕ, suc, _+_, _-_, _/_, _≤_, _<_}
 use mathlib.Core.Path.{_≡_, refl, sym, ap, _∙_}
 use mathlib.Core.Bool.{true, false, cond}
 use mathlib.Core.List.{List, [], _++_, append-nil}
@@ -17,21 +17,33 @@ use Rattle.record.proofs.Bytes.{length-entries, entries-from}
 use Rattle.marker.specs.declared.Marker.{Marker}
 use Rattle.marker.specs.declared.Stepped.{Stepped}
 use Rattle.marker.specs.Steps.{awaited, state, outcome, Steps}
+use Rattle.marker.specs.Marks.{Leads}
 
--- after i entries, with `count` turn starts at the front of the table
-pub record Inv (bytes before table : List ℕ) (m : Marker) (count i : ℕ) : Type 0 where
-  pub within : i ≤ length bytes / 12
-  pub few : count ≤ i
-  pub size : length table ≡ length before
-  pub leads : judgeFrom (drop i (entriesOf bytes)) (state i (take count table) m) ≡ judge (entriesOf bytes)
-  pub rest : drop count table ≡ drop count before
-
-pub begins-so : (bytes before : List ℕ) (m : Marker) → state 0 [] m ≡ begin → Inv bytes before before m 0 0
+pub begins-so : (bytes before : List ℕ) (m : Marker) → state 0 [] m ≡ begin → Leads bytes before before m 0 0
 unfolding judge
 begins-so bytes before m p =
     record { within = omega arith; few = omega arith; size = refl; leads = ap (judgeFrom (entriesOf bytes)) p; rest = refl }
 
-module _ (bytes before table : List ℕ) (m : Marker) (count i : ℕ) (v : Inv bytes before table m count i) where
+-- from a table on, and from the one before it
+pub from-here : {bytes before table : List ℕ} {m : Marker} {count i : ℕ} → Leads bytes before table m count i
+    → Leads bytes table table m count i
+from-here v = record { within = v .within; few = v .few; size = refl; leads = v .leads; rest = refl }
+
+pub across : {bytes before table after : List ℕ} {m n : Marker} {count more i j : ℕ} → Leads bytes before table m count i
+    → Leads bytes table after n more j → count ≤ more → Leads bytes before after n more j
+across {before = before} {table} {count = count} {more} v u h =
+    let e : count + (more - count) ≡ more = omega arith in
+    let rest : drop (count + (more - count)) table ≡ drop (count + (more - count)) before =
+    sym (drop-drop (more - count) count table) ∙ ap (drop (more - count)) (v .rest) ∙ drop-drop (more - count) count before in
+    record {
+      within = u .within;
+      few = u .few;
+      size = u .size ∙ v .size;
+      leads = u .leads;
+      rest = u .rest ∙ rw e at rest;
+    }
+
+module _ (bytes before table : List ℕ) (m : Marker) (count i : ℕ) (v : Leads bytes before table m count i) where
   abbrev es : List Entry
   es = entriesOf bytes
 
@@ -70,7 +82,7 @@ module _ (bytes before table : List ℕ) (m : Marker) (count i : ℕ) (v : Inv b
           ∙ ap (λ (k : ℕ). judgeFrom (drop (i + 1) es) (state k (take count table ++ keep (r .begins) i []) (r .marker))) (add-one i)
           ∙ walk (goes (state (suc i) (take count table ++ keep (r .begins) i []) (r .marker))) (rw (eq-eqb (r .fault) 0 z))
 
-      pub no-start : r .begins ≡ false → Inv bytes before table (r .marker) count (i + 1)
+      pub no-start : r .begins ≡ false → Leads bytes before table (r .marker) count (i + 1)
       no-start b =
           record {
             within = omega arith;
@@ -80,7 +92,7 @@ module _ (bytes before table : List ℕ) (m : Marker) (count i : ℕ) (v : Inv b
             rest = v .rest;
           }
 
-      pub start : r .begins ≡ true → count < length table → Inv bytes before (set table count i) (r .marker) (count + 1) (i + 1)
+      pub start : r .begins ≡ true → count < length table → Leads bytes before (set table count i) (r .marker) (count + 1) (i + 1)
       start b c =
           record {
             within = omega arith;

@@ -4,6 +4,7 @@ pub mod Left
 pub mod Answered
 pub mod Tests
 pub mod Whole
+pub mod Passing
 pub mod Judged
 pub mod Taken
 pub mod Unique

@@ -1,11 +1,14 @@
 -- The tests after the look, as the code makes them.
-use Prim.Native.Nat.{ℕ, _≤_, _<_, min}
-use mathlib.Core.Path.{_≡_, ap}
-use mathlib.Core.Bool.{true, false, and-false}
+use Prim.Native.Nat.{ℕ, zero, suc, _≤_, _<_, min}
+use mathlib.Core.Path.{_≡_, refl, ap}
+use mathlib.Core.Bool.{true, false, not, and-false}
 use mathlib.Core.List.{List}
+use native.Mathlib.Omega.{arith}
 use borrow.Author.Tests.{lt-ltb, le-ltb, le-leb, lt-leb, eq-eqb, ne-eqb}
-use lib.ListN.{take, getD}
+use lib.Dec.{eqb}
+use lib.ListN.{length, take, getD}
 use Rattle.deck.specs.Line.{Deck, isOpen}
+use Rattle.deck.proofs.Late.{opened}
 use Rattle.record.specs.declared.Entry.{Entry}
 use Rattle.record.specs.Machine.{Waiting, some}
 use Rattle.marker.specs.Steps.{lateFault}
@@ -14,6 +17,12 @@ use Rattle.marker.proofs.Forms.{no-controller, no-deck}
 -- no byte is held
 pub shut : (n : ℕ) (block : List ℕ) → n ≡ 0 → isOpen (take (min n 17) block) ≡ false
 shut n block e = ap (λ (k : ℕ). isOpen (take (min k 17) block)) e
+
+-- and a block is open where one is
+pub none-held : (n : ℕ) (block : List ℕ) → 0 < length block → eqb n 0 ≡ not (isOpen (take (min n 17) block))
+none-held zero block l = refl
+none-held (suc n) block l =
+    let s : suc n ≡ 0 → ⊥ = λ z. omega arith in rw (opened (suc n) block s l) (ne-eqb (suc n) 0 s)
 
 module _ (d : Deck) (w : Waiting) (e : Entry) where
   module _ (s : some (w .left) ≡ false) where

@@ -1,12 +1,13 @@
 -- The code's marker, and what a step has to come to: a step of the automaton of `record`.
-use Prim.Native.Nat.{ℕ, suc, _+_}
+use Prim.Native.Nat.{ℕ, suc, _+_, _≤_, _<_, _^_}
 use mathlib.Core.Path.{_≡_}
-use mathlib.Core.Bool.{cond, not, _&&_}
+use mathlib.Core.Bool.{true, false, cond, not, _&&_}
 use mathlib.Core.List.{List, [], _∷_, _++_}
 use lib.Dec.{eqb, ltb, leb}
 use lib.ListN.{take, drop, getD}
+use Rattle.packed.specs.Packed.{unpacked}
 use Rattle.deck.specs.declared.Sent.{Sent}
-use Rattle.deck.specs.Line.{Deck, Answer, acted}
+use Rattle.deck.specs.Line.{Deck, Answer, isOpen, acted}
 use Rattle.deck.specs.Calls.{view}
 use Rattle.record.specs.declared.Entry.{Entry}
 use Rattle.record.specs.Entries.{handed, keep, isController, isDeck}
@@ -14,11 +15,12 @@ use Rattle.record.specs.Machine.{Waiting, waiting, some, await, took, firstTrue
 use Rattle.marker.specs.declared.Waits.{Waits}
 use Rattle.marker.specs.declared.Marker.{Marker}
 use Rattle.marker.specs.declared.Stepped.{Stepped}
+use Rattle.marker.specs.declared.Weighed.{Weighed}
 
 -- ---- the code's marker
 
 abbrev pub awaited : Waits → Waiting
-awaited w = waiting (drop (w .from) (take (w .end) (w .reply))) (w .latest)
+awaited w = waiting (drop (w .from) (take (w .end) (unpacked (w .reply)))) (w .latest)
 
 -- as a state of the automaton, which counts the entries taken and keeps the starts
 abbrev pub state : ℕ → List ℕ → Marker → State
@@ -65,3 +67,19 @@ outcome taken starts r =
 pub record Steps (m : Marker) (e : Entry) (r : Stepped) : Type 0 where
   pub steps : (taken : ℕ) (starts : List ℕ) → outcome taken starts r ≡ step (state taken starts m) e
   pub same : (r .fault ≡ 0 → ⊥) → r .marker ≡ m
+
+-- ---- a light entry
+
+-- the entry's content is the next byte of the awaited reply, in time, and no block is open
+pub record Expected (m : Marker) (e : Entry) : Type 0 where
+  pub range : e .time < 2 ^ 48
+  pub order : m .deck .clock ≤ e .time
+  pub shut : isOpen (view (m .deck) .block) ≡ false
+  pub awaits : some (awaited (m .waits) .left) ≡ true
+  pub soon : e .time ≤ m .waits .latest
+  pub next : e .content ≡ getD (awaited (m .waits) .left) 0 0
+  pub small : e .content < 256
+
+-- one that is taken has no fault
+abbrev pub stepped : Weighed → Stepped
+stepped r = record { fault = 0; begins = r .begins; marker = r .marker }

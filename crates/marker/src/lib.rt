@@ -1,5 +1,6 @@
 // The marker: reads a line record and finds its turns, or the first place that no sound record can get past.
 use deck::Deck;
+use packed::Packed;
 ghost use mathlib.Core.Path.{_≡_};
 ghost use mathlib.Core.Bool.{cond};
 ghost use mathlib.Core.List.{[]};
@@ -8,16 +9,16 @@ ghost use lib.ListN.{length};
 ghost use Rattle.record.specs.Machine.{begin, resting};
 ghost use Rattle.deck.specs.Calls.{view};
 ghost use Rattle.marker.specs.Steps.{awaited, state};
-ghost use Rattle.marker.specs.Marks.{refusal, Runs, Marks};
+ghost use Rattle.marker.specs.Marks.{refusal, Leads, Runs, Marks};
 
 mod form;
+mod light;
 mod reply;
 mod step;
 
 // The bytes of a reply that are still to come are those of `reply` from `from` to `end`; none is to come later than `latest`.
-// A reply has at most 18 bytes. The array has 20, since the compiled code copies 16 and 4 bytes faster than 18.
 struct Waits {
-    reply: [u8; 20],
+    reply: Packed,
     from: usize,
     end: usize,
     latest: u64,
@@ -33,6 +34,20 @@ struct Marker {
 struct Stepped {
     fault: u8,
     begins: bool,
+    marker: Marker,
+}
+
+// Whether an entry is light. If it is: whether it begins a turn, and the marker after it.
+struct Weighed {
+    taken: bool,
+    begins: bool,
+    marker: Marker,
+}
+
+// Where the light entries end: the place, the turn starts so far and the marker.
+struct Passed {
+    place: usize,
+    count: usize,
     marker: Marker,
 }
 
@@ -58,7 +73,7 @@ impl Marker {
         Marker {
             deck: Deck::power_on(),
             waits: Waits {
-                reply: [0u8; 20],
+                reply: Packed::none(),
                 from: 0,
                 end: 0,
                 latest: 0,
@@ -95,6 +110,41 @@ fn refusal(size: usize, room: usize) -> u8
     0
 }
 
+// The light entries from this place on, to the first that is not light or the end.
+fn pass(bytes: &[u8], table: &mut [u32], from: Marker, counted: usize, at: usize) -> Passed
+    requires { ⌜ (length (now bytes) ≤ 65532) × (length (now bytes) / 12 ≤ length (now table))
+        × Leads (now bytes) (now table) (now table) from counted at ⌝ }
+    ensures { λ r. ⌜ Leads (now (bytes .entry)) (now (table .entry)) (now (table .exit)) (r .marker) (r .count) (r .place)
+        × (counted ≤ r .count) × (at ≤ r .place) ⌝ }
+{
+    let n = bytes.len() / 12;
+    let mut marker = from;
+    let mut count = counted;
+    let mut place = at;
+    while place < n {
+        let t = cursor::take(bytes, place);
+        let l = marker.light(t.entry);
+        if !l.taken {
+            return Passed {
+                place: place,
+                count: count,
+                marker: marker,
+            };
+        }
+        marker = l.marker;
+        if l.begins {
+            table[count] = place as u32;
+            count += 1;
+        }
+        place = t.place;
+    }
+    Passed {
+        place: place,
+        count: count,
+        marker: marker,
+    }
+}
+
 // The entries one after the other, to the first fault or the end.
 fn run(bytes: &[u8], table: &mut [u32]) -> Marked
     requires { ⌜ (length (now bytes) ≤ 65532) × (length (now bytes) / 12 ≤ length (now table)) ⌝ }
@@ -105,22 +155,28 @@ fn run(bytes: &[u8], table: &mut [u32]) -> Marked
     let mut count: usize = 0;
     let mut i: usize = 0;
     while i < n {
-        let t = cursor::take(bytes, i);
-        let r = marker.step(t.entry);
-        if r.fault != 0 {
-            return Marked {
-                no: 0,
-                fault: r.fault,
-                place: i,
-                count: count,
-            };
+        let p = pass(bytes, table, marker, count, i);
+        marker = p.marker;
+        count = p.count;
+        i = p.place;
+        if i < n {
+            let t = cursor::take(bytes, i);
+            let r = marker.step(t.entry);
+            if r.fault != 0 {
+                return Marked {
+                    no: 0,
+                    fault: r.fault,
+                    place: i,
+                    count: count,
+                };
+            }
+            marker = r.marker;
+            if r.begins {
+                table[count] = i as u32;
+                count += 1;
+            }
+            i = t.place;
         }
-        marker = r.marker;
-        if r.begins {
-            table[count] = i as u32;
-            count += 1;
-        }
-        i = t.place;
     }
     Marked {
         no: 0,

@@ -1,6 +1,7 @@
 // What is awaited of a reply.
 use super::Waits;
 use deck::Sent;
+use packed::Packed;
 ghost use mathlib.Core.Path.{_≡_};
 ghost use Prim.Native.Nat.{_+_, _<_, _^_};
 ghost use lib.ListN.{drop, getD};
@@ -15,7 +16,7 @@ impl Waits {
         if self.end <= self.from {
             return false;
         }
-        self.from < 20
+        self.from < 24
     }
 
     // The next byte, 0 if there is none.
@@ -25,11 +26,8 @@ impl Waits {
         if self.end <= self.from {
             return 0;
         }
-        let from = self.from;
-        if from < 20 {
-            return self.reply[from];
-        }
-        0
+        let reply = self.reply;
+        reply.at(self.from)
     }
 
     // A byte has come.
@@ -45,7 +43,7 @@ impl Waits {
     }
 
     // The deck has sent a reply, which stands at the front of the output, or none.
-    pub(super) fn after(self, sent: Sent, out: [u8; 20]) -> Waits
+    pub(super) fn after(self, sent: Sent, out: [u8; 24]) -> Waits
         requires { ⌜ sent .due < 2 ^ 48 ⌝ }
         ensures { λ r. ⌜ awaited r ≡ heard sent out (awaited self) ⌝ }
     {
@@ -53,7 +51,7 @@ impl Waits {
             return self;
         }
         Waits {
-            reply: out,
+            reply: Packed::pack(out),
             from: 0,
             end: sent.len,
             latest: sent.due + 9000,

@@ -29,7 +29,7 @@ const INTERRUPTS: u8 = 25;
 
 impl Marker {
     // The deck has answered.
-    fn after(self, answer: Answer, out: [u8; 20]) -> Marker
+    fn after(self, answer: Answer, out: [u8; 24]) -> Marker
         requires { ⌜ answer .first .due < 2 ^ 48 ⌝ }
         ensures { λ r. ⌜ (r .deck ≡ answer .deck) × (awaited (r .waits) ≡ heard (answer .first) out (awaited (self .waits))) ⌝ }
     {
@@ -47,7 +47,7 @@ impl Marker {
         requires { ⌜ (self .deck .clock ≤ time) × (time < 2 ^ 48) ⌝ }
         ensures { λ r. ⌜ Acts self time (looked (view (self .deck)) time) r ⌝ }
     {
-        let mut out = [0u8; 20];
+        let mut out = [0u8; 24];
         let deck = self.deck;
         let answer = deck.look(time, &mut out);
         self.after(answer, out)
@@ -59,7 +59,7 @@ impl Marker {
             × (looked (view (self .deck)) time ≡ silently (view (self .deck))) ⌝ }
         ensures { λ r. ⌜ Acts self time (answers (view (self .deck)) (byte time content flags)) r ⌝ }
     {
-        let mut out = [0u8; 20];
+        let mut out = [0u8; 24];
         let deck = self.deck;
         let answer = deck.byte(time, content, flags, &mut out);
         self.after(answer, out)
@@ -71,7 +71,7 @@ impl Marker {
             × (looked (view (self .deck)) time ≡ silently (view (self .deck))) ⌝ }
         ensures { λ r. ⌜ Acts self time (answers (view (self .deck)) (position time place)) r ⌝ }
     {
-        let mut out = [0u8; 20];
+        let mut out = [0u8; 24];
         let deck = self.deck;
         let answer = deck.position(time, place, &mut out);
         self.after(answer, out)
@@ -83,7 +83,7 @@ impl Marker {
             × (looked (view (self .deck)) time ≡ silently (view (self .deck))) ⌝ }
         ensures { λ r. ⌜ Acts self time (answers (view (self .deck)) (cassette time)) r ⌝ }
     {
-        let mut out = [0u8; 20];
+        let mut out = [0u8; 24];
         let deck = self.deck;
         let answer = deck.cassette(time, &mut out);
         self.after(answer, out)

@@ -11,47 +11,12 @@ use borrow.Rule.Slice.PartMut.{midOf, putMid, mid-len, same-len-mid}
 use lib.Dec.{eqb, leb}
 use lib.ListN.{length, getD, take, drop, set, length-drop, length-set, take-append-drop, List·getD-eq-default}
 use lib.Seq.{take-all, take-nil, take-at, take-suc-set, drop-at, drop-cons, drop-drop}
-use Rattle.execute.proofs.Replies.{Bytes}
+use Rattle.packed.specs.Numbers.{lowFirst, lowBytes}
+use Rattle.packed.proofs.Bytes.{Bytes, behind}
+use Rattle.packed.proofs.Numbers.{length-low, low-back, bytes-back}
 use Rattle.record.specs.declared.Entry.{Entry}
-use Rattle.record.proofs.Lists.{true-of, and-right, drop-bytes}
-use Rattle.record.specs.Bytes.{lowFirst, lowBytes, entryOf, bytesOf, firstEntries, entriesOf, isRecord, noEntry}
-
--- ---- numbers, lowest byte first
-
--- n bytes from the i-th on, one by one
-abbrev pub window : (n i : ℕ) → List ℕ → List ℕ
-window zero i b = []
-window (suc n) i b = getD b i 0 ∷ window n (suc i) b
-
-low-step : (n i : ℕ) (b : List ℕ) → lowFirst (take (suc n) (drop i b)) ≡ getD b i 0 + 256 * lowFirst (take n (drop (suc i) b))
-low-step n zero [] = rw take-nil
-low-step n (suc i) [] = rw take-nil
-low-step n zero (x ∷ b) = refl
-low-step n (suc i) (x ∷ b) = low-step n i b
-
-pub low-part : (n i : ℕ) (b : List ℕ) → lowFirst (take n (drop i b)) ≡ lowFirst (window n i b)
-low-part zero i b = refl
-low-part (suc n) i b = low-step n i b ∙ ap (λ (v : ℕ). getD b i 0 + 256 * v) (low-part n (suc i) b)
-
-pub length-low : (k n : ℕ) → length (lowBytes k n) ≡ k
-unfolding lowBytes
-length-low zero n = refl
-length-low (suc k) n = ap suc (length-low k (n / 256))
-
-pub low-back : (k n : ℕ) → n < 256 ^ k → lowFirst (lowBytes k n) ≡ n
-unfolding lowBytes
-low-back zero n h = omega arith
-low-back (suc k) n h = let e = low-back k (n / 256) (omega (arith, pow-suc 256 k)) in omega arith
-
-pub bytes-back : (n : ℕ) (b : List ℕ) → Bytes b → n ≤ length b → lowBytes n (lowFirst (take n b)) ≡ take n b
-unfolding lowBytes
-bytes-back zero b h l = refl
-bytes-back (suc n) [] h l = absurd (omega arith)
-bytes-back (suc n) (x ∷ b) h l =
-    let v = lowFirst (take n b) in
-    let m : (x + 256 * v) % 256 ≡ x = omega (arith, h .0) in
-    let d : (x + 256 * v) / 256 ≡ v = omega (arith, h .0) in
-    rw (m, d, bytes-back n b (h .1) (omega arith))
+use Rattle.record.proofs.Lists.{true-of, and-right}
+use Rattle.record.specs.Bytes.{entryOf, bytesOf, firstEntries, entriesOf, isRecord, noEntry}
 
 -- ---- an entry and its bytes
 
@@ -74,7 +39,7 @@ twelve-back (k ∷ f ∷ b) h l =
     let n : length (drop 4 b) ≡ 6 = rw (length-drop 4 b) (omega arith) in
     rw (
       bytes-back 4 b (h .1 .1) (omega arith),
-      bytes-back 6 (drop 4 b) (drop-bytes 4 b (h .1 .1)) (omega arith),
+      bytes-back 6 (drop 4 b) (behind 4 b (h .1 .1)) (omega arith),
       take-all 6 (drop 4 b) (omega arith),
       take-append-drop 4 b,
     )

@@ -7,7 +7,8 @@ use lib.Dec.{T, ltb, lt→ltb}
 use lib.ListN.{length}
 use Rattle.settings.specs.declared.Settings.{Settings}
 use Rattle.execute.specs.Execute.{execute}
-use Rattle.execute.proofs.Replies.{Bytes, reply-bytes}
+use Rattle.packed.proofs.Bytes.{Bytes}
+use Rattle.execute.proofs.Replies.{reply-bytes}
 use Rattle.deck.specs.Line.{look, Deck, deck, atPowerOn, Answer, silently, replied, freeAfter, isOpen, size, looked, acted}
 use Rattle.deck.proofs.Steps.{look-shut, look-early, acted-other}
 use Rattle.deck.proofs.Cases.{open-more, size-more, length-more, acted-more, acted-last}

@@ -8,7 +8,7 @@ use lib.Dec.{T, leb}
 use lib.ListN.{drop}
 use mathlib.Core.Logic.{_⊎_, inl, inr}
 use borrow.Author.Tests.{leb-true, leb-false}
-use Rattle.execute.proofs.Replies.{Bytes}
+use Rattle.packed.proofs.Bytes.{Bytes}
 use Rattle.record.specs.declared.Entry.{Entry}
 use Rattle.record.specs.Entries.{All, First, Steps, keep, lastTime, ofKind}
 
@@ -34,11 +34,6 @@ le-or-lt a b = go (leb a b) refl
     go : (x : Bool) → leb a b ≡ x → (a ≤ b) ⊎ (b < a)
     go true p = inl (leb-true a b p)
     go false p = inr (leb-false a b p)
-
-pub drop-bytes : (n : ℕ) (b : List ℕ) → Bytes b → Bytes (drop n b)
-drop-bytes zero b h = h
-drop-bytes (suc n) [] h = tt
-drop-bytes (suc n) (x ∷ b) h = drop-bytes n b (h .1)
 
 -- ---- of a kind
 

@@ -9,7 +9,8 @@ use lib.ListN.{length}
 use Rattle.settings.specs.declared.Settings.{Settings}
 use Rattle.execute.specs.Replies.{nak, timeOut}
 use Rattle.execute.specs.Execute.{execute}
-use Rattle.execute.proofs.Replies.{Bytes, reply-bytes}
+use Rattle.packed.proofs.Bytes.{Bytes, behind}
+use Rattle.execute.proofs.Replies.{reply-bytes}
 use Rattle.deck.specs.Line.{look, Deck, deck, atPowerOn, Answer, silently, voided, replied, isOpen, size, looked, acted}
 use Rattle.deck.proofs.Steps.{look-shut, look-early, acted-other}
 use Rattle.deck.proofs.Cases.{expired, looked-late, size-more, length-more, acted-dropped, acted-flagged, acted-first, acted-more, acted-last}
@@ -18,7 +19,7 @@ use Rattle.deck.specs.Calls.{flagsFit}
 use Rattle.record.specs.Entries.{entry, fits, WellFormed, handed, afterEntry, run, lastTime}
 use Rattle.record.specs.Turns.{Clean}
 use Rattle.record.proofs.Handed.{taped, acted-tape}
-use Rattle.record.proofs.Lists.{and-left, and-right, le-or-lt, drop-bytes}
+use Rattle.record.proofs.Lists.{and-left, and-right, le-or-lt}
 use Rattle.record.specs.Machine.{Waiting, waiting, some, awaitedAfter, advance}
 use Rattle.record.proofs.Readings.{waits, Pass, Passes, deckNow, waitingNow, PassesNow, of-halves, pass-look, heard-alone}
 use Rattle.record.proofs.Opening.{Dirty, clean-or-not}
@@ -111,7 +112,7 @@ keeps-shut (suc zero) fl c tm l f s now lat t a v = (
   record {
     small = time-small (entry 1 fl c tm) (v .wellFormed);
     inTime = λ _. omega arith;
-    bytes = drop-bytes 1 now a;
+    bytes = behind 1 now a;
     opened = λ n. absurd n;
   },
 )

@@ -4,19 +4,10 @@ use mathlib.Core.Bool.{Bool, cond, _&&_}
 use mathlib.Core.List.{List, [], _∷_, _++_}
 use lib.Dec.{eqb, leb, ltb}
 use lib.ListN.{length, take, drop, getD}
+use Rattle.packed.specs.Numbers.{lowFirst, lowBytes}
 use Rattle.record.specs.declared.Entry.{Entry}
 use Rattle.record.specs.declared.Written.{Written}
 use Rattle.record.specs.Entries.{entry}
-
--- "lowest byte first"
-abbrev pub lowFirst : List ℕ → ℕ
-lowFirst [] = 0
-lowFirst (b ∷ bytes) = b + 256 * lowFirst bytes
-
--- a number as so many bytes
-unfoldable pub lowBytes : ℕ → ℕ → List ℕ
-lowBytes zero n = []
-lowBytes (suc k) n = n % 256 ∷ lowBytes k (n / 256)
 
 -- ---- "Entries are 12 bytes, no header: kind .., flags .., content in four bytes, time in six"
 

@@ -4,7 +4,8 @@ ghost use mathlib.Core.Path.{_≡_};
 ghost use mathlib.Core.List.{[], _∷_};
 ghost use Prim.Native.Nat.{_≤_};
 ghost use lib.ListN.{length, getD};
-ghost use Rattle.record.specs.Bytes.{lowFirst, lowBytes, entryOf, entriesOf, isRecord, noEntry, written, writtenOut};
+ghost use Rattle.packed.specs.Numbers.{lowFirst, lowBytes};
+ghost use Rattle.record.specs.Bytes.{entryOf, entriesOf, isRecord, noEntry, written, writtenOut};
 
 const ROOM: u8 = 1;
 

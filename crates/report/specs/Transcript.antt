@@ -78,7 +78,7 @@ timeLine words position = hexLine words (writeTime position .bytes)
 unfoldable pub timeLines : Settings → List ℕ
 timeLines s =
     timeLine (116 ∷ 105 ∷ 109 ∷ 101 ∷ []) (s .position)
-    ++ (timeLine (105 ∷ 110 ∷ []) (s .inpoint .at) ++ timeLine (111 ∷ 117 ∷ 116 ∷ []) (s .outpoint .at))
+    ++ (timeLine (105 ∷ 110 ∷ []) (s .inat) ++ timeLine (111 ∷ 117 ∷ 116 ∷ []) (s .outat))
 
 -- five lines: `status` and the 13 status bytes, the three times, and the speed
 unfoldable pub settingsLines : Settings → List ℕ

@@ -33,10 +33,8 @@ fn put_times(out: &mut [u8], at: usize, settings: Settings) -> usize
     ensures { λ r. ⌜ r ≡ at + 48 ⌝ }
 {
     let from = put_time(out, at, b"time", settings.position);
-    let inpoint = settings.inpoint;
-    let end = put_time(out, from, b"in", inpoint.at);
-    let outpoint = settings.outpoint;
-    put_time(out, end, b"out", outpoint.at)
+    let end = put_time(out, from, b"in", settings.inat);
+    put_time(out, end, b"out", settings.outat)
 }
 
 pub(super) fn put_settings(out: &mut [u8], at: usize, settings: Settings) -> usize

@@ -36,7 +36,7 @@ pub byte2 : (s : Settings) → IsByte (s .cued)
     (status2 s)
 byte2 s = flags _ _ refl
 
-pub byte3 : (s : Settings) → IsByte (s .inpoint .on) ((1, s .outpoint .on) ∷ []) (status3 s)
+pub byte3 : (s : Settings) → IsByte (s .inon) ((1, s .outon) ∷ []) (status3 s)
 byte3 s = flags _ _ refl
 
 -- ---- all thirteen

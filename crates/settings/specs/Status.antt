@@ -67,7 +67,7 @@ status2 s =
 
 -- "Byte 3, bits 1 Out flag, 0 In flag."
 abbrev pub status3 : Settings → ℕ
-status3 s = bit (s .inpoint .on) + 2 * bit (s .outpoint .on)
+status3 s = bit (s .inon) + 2 * bit (s .outon)
 
 -- all thirteen
 unfoldable pub statusBytes : Settings → List ℕ

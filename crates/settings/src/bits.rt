@@ -95,7 +95,5 @@ pub(super) fn status2(s: Settings) -> u8
 pub(super) fn status3(s: Settings) -> u8
     ensures { λ r. ⌜ r ≡ status3 s ⌝ }
 {
-    let inpoint = s.inpoint;
-    let outpoint = s.outpoint;
-    inpoint.on as u8 | (outpoint.on as u8) << 1
+    s.inon as u8 | (s.outon as u8) << 1
 }

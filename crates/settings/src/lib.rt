@@ -28,17 +28,20 @@ pub struct Point {
     pub on: bool,
 }
 
-// The speed is in thousandths of the play speed, minus in reverse.
+// The speed is in thousandths of the play speed, minus in reverse. In and Out stand here as bare positions and flags: a
+// `Point` ends in three bytes of padding, which every copy would carry along.
 pub struct Settings {
     pub cassette: bool,
     pub mode: Mode,
-    pub speed: i32,
     pub local: bool,
+    pub speed: i32,
     pub standby: bool,
     pub cued: bool,
     pub position: u32,
-    pub inpoint: Point,
-    pub outpoint: Point,
+    pub inon: bool,
+    pub outon: bool,
+    pub inat: u32,
+    pub outat: u32,
 }
 
 impl Settings {
@@ -48,13 +51,15 @@ impl Settings {
         Settings {
             cassette: true,
             mode: Mode::Stop,
-            speed: 0,
             local: true,
+            speed: 0,
             standby: false,
             cued: false,
             position: 0,
-            inpoint: Point { at: 0, on: false },
-            outpoint: Point { at: 0, on: false },
+            inon: false,
+            outon: false,
+            inat: 0,
+            outat: 0,
         }
     }
 
@@ -84,18 +89,18 @@ impl Settings {
     pub fn with_motion(self, mode: Mode, speed: i32) -> Settings
         ensures { λ r. ⌜ r ≡ withMotion mode speed self ⌝ }
     {
-        let inpoint = self.inpoint;
-        let outpoint = self.outpoint;
         Settings {
             cassette: self.cassette,
             mode: mode,
-            speed: speed,
             local: self.local,
+            speed: speed,
             standby: self.standby,
             cued: self.cued,
             position: self.position,
-            inpoint: inpoint,
-            outpoint: outpoint,
+            inon: self.inon,
+            outon: self.outon,
+            inat: self.inat,
+            outat: self.outat,
         }
     }
 
@@ -103,8 +108,14 @@ impl Settings {
         ensures { λ r. ⌜ r ≡ pointOf which self ⌝ }
     {
         match which {
-            Which::In => self.inpoint,
-            Which::Out => self.outpoint,
+            Which::In => Point {
+                at: self.inat,
+                on: self.inon,
+            },
+            Which::Out => Point {
+                at: self.outat,
+                on: self.outon,
+            },
         }
     }
 
@@ -112,8 +123,14 @@ impl Settings {
         ensures { λ r. ⌜ r ≡ withPoint which point self ⌝ }
     {
         match which {
-            Which::In => self.inpoint = point,
-            Which::Out => self.outpoint = point,
+            Which::In => {
+                self.inat = point.at;
+                self.inon = point.on;
+            }
+            Which::Out => {
+                self.outat = point.at;
+                self.outon = point.on;
+            }
         }
         self
     }

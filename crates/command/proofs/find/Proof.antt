@@ -1,14 +1,14 @@
 -- `command::find` meets its contract: what is left of the list from `i` gives the same answer as the whole.
 use mathlib.Core.Bool.{Bool, true, false, cond, _&&_}
-use mathlib.Core.List.{List}
-use mathlib.Core.Logic.{⊎-elim}
+use mathlib.Core.List.{List, [], _∷_}
 use mathlib.Core.Path.{_≡_, sym, _∙_}
-use Prim.Native.Nat.{ℕ, _+_, _-_, _≤_, _<_}
+use Prim.Native.Nat.{ℕ, zero, suc, _+_, _*_, _-_, _≤_, _<_}
 use borrow.Author.Needs.{needs}
 use borrow.Author.Tests.{eq-eqb, ne-eqb}
 use native.Mathlib.Numerals.{add-one}
 use native.Mathlib.Omega.{arith}
-use lib.Dec.{eqb}
+use native.Mathlib.Decide.{ℕ-discrete}
+use lib.Dec.{T, eqb, ltb, ltb→lt}
 use lib.ListN.{length, drop, getD, drop-of-length-le}
 use lib.Seq.{drop-cons}
 use Rattle.command.specs.Commands.{commands, lookup, noCommand}
@@ -21,6 +21,23 @@ use Rattle.command.proofs.find.Tie as tie
 abbrev hit : Command → ℕ → ℕ → Bool
 hit r f c = eqb (r .first) f && eqb (r .command) c
 
+abbrev code : ℕ → ℕ → ℕ
+code f c = f * 256 + c
+
+same : (r : Command) (f c : ℕ) → r .command < 256 → c < 256 → code (r .first) (r .command) ≡ code f c → hit r f c ≡ true
+same r f c h k e =
+    let p : r .first ≡ f = omega (arith, e, h, k) in
+    let q : r .command ≡ c = omega (arith, e, h, k) in
+    simp (eq-eqb _ _ p, eq-eqb _ _ q)
+
+other : (r : Command) (f c : ℕ) → (code (r .first) (r .command) ≡ code f c → ⊥) → hit r f c ≡ false
+other r f c n = by (ℕ-discrete (r .first) f) (ℕ-discrete (r .command) c)
+  where
+    by : Dec (r .first ≡ f) → Dec (r .command ≡ c) → hit r f c ≡ false
+    by (yes p) (yes q) = absurd (n (omega (arith, p, q)))
+    by (yes p) (no q) = simp (eq-eqb _ _ p, ne-eqb _ _ q)
+    by (no p) d = simp (ne-eqb _ _ p)
+
 -- one row on, by the answer of its test
 one-more : (xs : List Command) (d : Command) (i f c : ℕ) (b : Bool) → i < length xs → hit (getD xs i d) f c ≡ b
     → lookup (drop i xs) f c ≡ cond b (getD xs i d .kind) (lookup (drop (i + 1) xs) f c)
@@ -31,65 +48,185 @@ ended : (xs : List Command) (i f c : ℕ) → length xs ≤ i → lookup (drop i
 unfolding lookup
 ended xs i f c h = rw (drop-of-length-le xs h)
 
+-- the rows hold bytes, by a test of the whole list
+both : (a b : Bool) → T (a && b) → T a × T b
+both true b t = (tt, t)
+both false b t = absurd t
+
+bytes : List Command → Bool
+bytes [] = true
+bytes (r ∷ rs) = ltb (r .command) 256 && bytes rs
+
+byte-at : (rs : List Command) (i : ℕ) → T (bytes rs) → getD rs i noCommand .command < 256
+unfolding bytes
+byte-at [] i t = omega arith
+byte-at (r ∷ rs) zero t = ltb→lt (r .command) 256 (both (ltb (r .command) 256) (bytes rs) t .0)
+byte-at (r ∷ rs) (suc i) t = byte-at rs i (both (ltb (r .command) 256) (bytes rs) t .1)
+
+row-byte : (i : ℕ) → getD commands i noCommand .command < 256
+unfolding commands bytes
+row-byte i = byte-at commands i tt
+
 long : (i : ℕ) → i < 36 → i < length commands
 unfolding commands
 long i h = h
 
 abbrev Inv-loop : tie.InvT-loop
-Inv-loop first command table i₀ i = (i ≤ 36) × (lookup (drop i commands) first command ≡ lookup commands first command)
+Inv-loop first command wanted table i₀ i = (i ≤ 12) × (lookup (drop i commands) first command ≡ lookup commands first command)
 
 abbrev μ-loop : tie.MeasureT-loop
-μ-loop first command table i₀ i = 36 - i
+μ-loop first command wanted table i₀ i = 12 - i
 
-rows-requires : tie.Need-rows-requires Inv-loop μ-loop
+abbrev Inv-loop2 : tie.InvT-loop2
+Inv-loop2 first command wanted table i₀ i = (i ≤ 24) × (lookup (drop i commands) first command ≡ lookup commands first command)
+
+abbrev μ-loop2 : tie.MeasureT-loop2
+μ-loop2 first command wanted table i₀ i = 24 - i
+
+abbrev Inv-loop3 : tie.InvT-loop3
+Inv-loop3 first command wanted table i₀ i = (i ≤ 36) × (lookup (drop i commands) first command ≡ lookup commands first command)
+
+abbrev μ-loop3 : tie.MeasureT-loop3
+μ-loop3 first command wanted table i₀ i = 36 - i
+
+code-requires : tie.Need-code-requires Inv-loop μ-loop Inv-loop2 μ-loop2 Inv-loop3 μ-loop3
+code-requires c κs = search needs
+
+rows-requires : tie.Need-rows-requires Inv-loop μ-loop Inv-loop2 μ-loop2 Inv-loop3 μ-loop3
 rows-requires c κs = search needs
 
-loop-holds : tie.Need-loop-holds Inv-loop μ-loop
+loop-holds : tie.Need-loop-holds Inv-loop μ-loop Inv-loop2 μ-loop2 Inv-loop3 μ-loop3
 loop-holds c = search needs
 
-mul-c : tie.Need-mul-c Inv-loop μ-loop
+mul-c : tie.Need-mul-c Inv-loop μ-loop Inv-loop2 μ-loop2 Inv-loop3 μ-loop3
 mul-c c = search needs
 
-array-copy-out-c : tie.Need-array-copy-out-c Inv-loop μ-loop
+array-copy-out-c : tie.Need-array-copy-out-c Inv-loop μ-loop Inv-loop2 μ-loop2 Inv-loop3 μ-loop3
 array-copy-out-c c = search needs
 
-returns : tie.Need-returns Inv-loop μ-loop
-returns c =
-    let w = c .before .before in
-    let l = w .before .before .before .before .loop in
-    let e = w .before .before .before .before .before .rows .ensures in
-    let here : l .i < length commands = long (l .i) (omega arith) in
-    rw e
-    (sym
-    (one-more commands noCommand (l .i) _ _ true here
-    (simp (eq-eqb _ _ (rw e at (w .if1 .taken)), rw e at (c .if2 .taken))))
-    ∙ l .inv .1)
+code-requires-2 : tie.Need-code-requires-2 Inv-loop μ-loop Inv-loop2 μ-loop2 Inv-loop3 μ-loop3
+code-requires-2 c κs = search needs
 
-add-i : tie.Need-add-i Inv-loop μ-loop
+returns : tie.Need-returns Inv-loop μ-loop Inv-loop2 μ-loop2 Inv-loop3 μ-loop3
+returns c =
+    let l = c .before .before .before .before .loop in
+    let p = c .before .before .before .before in
+    let e = p .before .rows .ensures in
+    let f = p .before .before .before .args .first in
+    let b = p .before .before .before .args .command in
+    let r = getD (p .before .rows .result) (l .i) noCommand in
+    let here : l .i < length commands = long (l .i) (omega arith) in
+    let small : r .command < 256 = rw e (row-byte (l .i)) in
+    let hits : hit r f b ≡ true = same r f b small (omega arith) (omega (arith, c .if1 .taken, c .before .code2 .ensures, p .before .before .code .ensures)) in
+    rw e (sym (one-more commands noCommand (l .i) f b true here (rw e at hits)) ∙ l .inv .1)
+
+add-i : tie.Need-add-i Inv-loop μ-loop Inv-loop2 μ-loop2 Inv-loop3 μ-loop3
 add-i c = search needs
 
-loop-less : tie.Need-loop-less Inv-loop μ-loop
+loop-less : tie.Need-loop-less Inv-loop μ-loop Inv-loop2 μ-loop2 Inv-loop3 μ-loop3
 loop-less c = search needs
 
-loop-again : tie.Need-loop-again Inv-loop μ-loop
+loop-again : tie.Need-loop-again Inv-loop μ-loop Inv-loop2 μ-loop2 Inv-loop3 μ-loop3
 loop-again c =
-    let r = c .before .before in
-    let l = r .before .before .loop in
-    let e = r .before .before .before .rows .ensures in
-    let here : l .i < length commands = long (l .i) (omega arith) in (
-      omega arith,
-      sym
-          (one-more commands noCommand (l .i) _ _ false here
-          (⊎-elim
-          (λ w. simp (eq-eqb _ _ (rw e at (w .0 .taken)), rw e at (w .2 .left)))
-          (λ w. simp (ne-eqb _ _ (rw e at (w .left))))
-          (c .if1 .came)))
-          ∙ l .inv .1,
-    )
+    let l = c .before .before .before .before .loop in
+    let p = c .before .before .before .before in
+    let e = p .before .rows .ensures in
+    let f = p .before .before .before .args .first in
+    let b = p .before .before .before .args .command in
+    let r = getD (p .before .rows .result) (l .i) noCommand in
+    let here : l .i < length commands = long (l .i) (omega arith) in
+    let misses : hit r f b ≡ false = other r f b (λ h. c .if1 .left (omega (arith, h, c .before .code2 .ensures, p .before .before .code .ensures))) in
+    (omega arith, sym (one-more commands noCommand (l .i) f b false here (rw e at misses)) ∙ l .inv .1)
 
-returns-2 : tie.Need-returns-2 Inv-loop μ-loop
+loop2-holds : tie.Need-loop2-holds Inv-loop μ-loop Inv-loop2 μ-loop2 Inv-loop3 μ-loop3
+loop2-holds c = search needs
+
+mul-c-2 : tie.Need-mul-c-2 Inv-loop μ-loop Inv-loop2 μ-loop2 Inv-loop3 μ-loop3
+mul-c-2 c = search needs
+
+array-copy-out-c-2 : tie.Need-array-copy-out-c-2 Inv-loop μ-loop Inv-loop2 μ-loop2 Inv-loop3 μ-loop3
+array-copy-out-c-2 c = search needs
+
+code-requires-3 : tie.Need-code-requires-3 Inv-loop μ-loop Inv-loop2 μ-loop2 Inv-loop3 μ-loop3
+code-requires-3 c κs = search needs
+
+returns-2 : tie.Need-returns-2 Inv-loop μ-loop Inv-loop2 μ-loop2 Inv-loop3 μ-loop3
+returns-2 c =
+    let l = c .before .before .before .before .loop2 in
+    let p = c .before .before .before .before .before .before in
+    let e = p .before .rows .ensures in
+    let f = p .before .before .before .args .first in
+    let b = p .before .before .before .args .command in
+    let r = getD (p .before .rows .result) (l .i) noCommand in
+    let here : l .i < length commands = long (l .i) (omega arith) in
+    let small : r .command < 256 = rw e (row-byte (l .i)) in
+    let hits : hit r f b ≡ true = same r f b small (omega arith) (omega (arith, c .if2 .taken, c .before .code3 .ensures, p .before .before .code .ensures)) in
+    rw e (sym (one-more commands noCommand (l .i) f b true here (rw e at hits)) ∙ l .inv .1)
+
+add-i-2 : tie.Need-add-i-2 Inv-loop μ-loop Inv-loop2 μ-loop2 Inv-loop3 μ-loop3
+add-i-2 c = search needs
+
+loop2-less : tie.Need-loop2-less Inv-loop μ-loop Inv-loop2 μ-loop2 Inv-loop3 μ-loop3
+loop2-less c = search needs
+
+loop2-again : tie.Need-loop2-again Inv-loop μ-loop Inv-loop2 μ-loop2 Inv-loop3 μ-loop3
+loop2-again c =
+    let l = c .before .before .before .before .loop2 in
+    let p = c .before .before .before .before .before .before in
+    let e = p .before .rows .ensures in
+    let f = p .before .before .before .args .first in
+    let b = p .before .before .before .args .command in
+    let r = getD (p .before .rows .result) (l .i) noCommand in
+    let here : l .i < length commands = long (l .i) (omega arith) in
+    let misses : hit r f b ≡ false = other r f b (λ h. c .if2 .left (omega (arith, h, c .before .code3 .ensures, p .before .before .code .ensures))) in
+    (omega arith, sym (one-more commands noCommand (l .i) f b false here (rw e at misses)) ∙ l .inv .1)
+
+loop3-holds : tie.Need-loop3-holds Inv-loop μ-loop Inv-loop2 μ-loop2 Inv-loop3 μ-loop3
+loop3-holds c = search needs
+
+mul-c-3 : tie.Need-mul-c-3 Inv-loop μ-loop Inv-loop2 μ-loop2 Inv-loop3 μ-loop3
+mul-c-3 c = search needs
+
+array-copy-out-c-3 : tie.Need-array-copy-out-c-3 Inv-loop μ-loop Inv-loop2 μ-loop2 Inv-loop3 μ-loop3
+array-copy-out-c-3 c = search needs
+
+code-requires-4 : tie.Need-code-requires-4 Inv-loop μ-loop Inv-loop2 μ-loop2 Inv-loop3 μ-loop3
+code-requires-4 c κs = search needs
+
+returns-3 : tie.Need-returns-3 Inv-loop μ-loop Inv-loop2 μ-loop2 Inv-loop3 μ-loop3
+returns-3 c =
+    let l = c .before .before .before .before .loop3 in
+    let p = c .before .before .before .before .before .before .before .before in
+    let e = p .before .rows .ensures in
+    let f = p .before .before .before .args .first in
+    let b = p .before .before .before .args .command in
+    let r = getD (p .before .rows .result) (l .i) noCommand in
+    let here : l .i < length commands = long (l .i) (omega arith) in
+    let small : r .command < 256 = rw e (row-byte (l .i)) in
+    let hits : hit r f b ≡ true = same r f b small (omega arith) (omega (arith, c .if3 .taken, c .before .code4 .ensures, p .before .before .code .ensures)) in
+    rw e (sym (one-more commands noCommand (l .i) f b true here (rw e at hits)) ∙ l .inv .1)
+
+add-i-3 : tie.Need-add-i-3 Inv-loop μ-loop Inv-loop2 μ-loop2 Inv-loop3 μ-loop3
+add-i-3 c = search needs
+
+loop3-less : tie.Need-loop3-less Inv-loop μ-loop Inv-loop2 μ-loop2 Inv-loop3 μ-loop3
+loop3-less c = search needs
+
+loop3-again : tie.Need-loop3-again Inv-loop μ-loop Inv-loop2 μ-loop2 Inv-loop3 μ-loop3
+loop3-again c =
+    let l = c .before .before .before .before .loop3 in
+    let p = c .before .before .before .before .before .before .before .before in
+    let e = p .before .rows .ensures in
+    let f = p .before .before .before .args .first in
+    let b = p .before .before .before .args .command in
+    let r = getD (p .before .rows .result) (l .i) noCommand in
+    let here : l .i < length commands = long (l .i) (omega arith) in
+    let misses : hit r f b ≡ false = other r f b (λ h. c .if3 .left (omega (arith, h, c .before .code4 .ensures, p .before .before .code .ensures))) in
+    (omega arith, sym (one-more commands noCommand (l .i) f b false here (rw e at misses)) ∙ l .inv .1)
+
+returns-4 : tie.Need-returns-4 Inv-loop μ-loop Inv-loop2 μ-loop2 Inv-loop3 μ-loop3
 unfolding commands
-returns-2 c = sym (ended commands (c .before .loop .i) _ _ (omega arith)) ∙ c .before .loop .inv .1
+returns-4 c = sym (ended commands (c .before .loop3 .i) _ _ (omega arith)) ∙ c .before .loop3 .inv .1
 
 pub find-spec : {M : Type 1} → statement M
 find-spec =
@@ -97,12 +234,34 @@ find-spec =
     (tie.spec
     Inv-loop
     μ-loop
+    Inv-loop2
+    μ-loop2
+    Inv-loop3
+    μ-loop3
+    code-requires
     rows-requires
     loop-holds
     mul-c
     array-copy-out-c
+    code-requires-2
     returns
     add-i
     loop-less
     loop-again
-    returns-2)
+    loop2-holds
+    mul-c-2
+    array-copy-out-c-2
+    code-requires-3
+    returns-2
+    add-i-2
+    loop2-less
+    loop2-again
+    loop3-holds
+    mul-c-3
+    array-copy-out-c-3
+    code-requires-4
+    returns-3
+    add-i-3
+    loop3-less
+    loop3-again
+    returns-4)

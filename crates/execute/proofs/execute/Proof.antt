@@ -1,11 +1,11 @@
 -- `execute::execute` meets its contract.
 use mathlib.Core.Path.{_≡_, sym, ap, _∙_}
-use Prim.Native.Nat.{ℕ}
+use Prim.Native.Nat.{ℕ, _-_, _≤_}
 use native.Mathlib.Omega.{arith}
 use borrow.Author.Tests.{lt-ltb, le-ltb}
-use lib.ListN.{getD}
+use lib.ListN.{length, take, drop, getD}
 use Rattle.block.specs.Read.{readNo}
-use Rattle.block.proofs.Reading.{length-read, fields-read, fields-number}
+use Rattle.block.proofs.Reading.{length-read, fields-read, fields-number, data-read}
 use Rattle.command.specs.Commands.{commands, lookup}
 use Rattle.execute.specs.Execute.{executed, executedOut}
 use Rattle.execute.proofs.Carried.{as-shown, carried, execute-read, execute-bad}
@@ -51,8 +51,21 @@ shared-slice-read-find c =
 find-requires : tie.Need-find-requires
 find-requires c κs = search needs
 
-data-requires : tie.Need-data-requires
-data-requires c κs = search needs
+-- .. and has its three bytes
+long : (c : tie.After-find) → 3 ≤ length (c .before .before .before .before .before .before .before .before .args .bytes .now)
+long c = omega (arith, length-read _ (reads (c .before .before)))
+
+sub-end : tie.Need-sub-end
+sub-end c = omega (arith, long c)
+
+sub-carry : tie.Need-sub-carry
+sub-carry c = omega (arith, long c)
+
+part-carry-start : tie.Need-part-carry-start
+part-carry-start c = omega (arith, long c)
+
+part-carry-end : tie.Need-part-carry-end
+part-carry-end c = search needs
 
 carry-requires : tie.Need-carry-requires
 carry-requires c κs = search needs
@@ -69,8 +82,10 @@ returns-3 c =
     let f = c .before .before .before .before .before .before .before .before .before .fields in
     let command : f .result .command ≡ getD block 1 0 = ap (λ h. h .command) (f .ensures ∙ fields-read block zero) in
     let kind = c .before .before .before .before .before .find .ensures ∙ ap (λ (n : ℕ). lookup commands (getD block 0 0) n) command in
+    let less : length block - 3 ≡ length block - 1 - 2 = omega arith in
+    let between = data-read block zero ∙ ap (λ (n : ℕ). take n (drop 2 block)) less in
     rw (le-ltb _ _ (c .before .before .before .before .before .before .before .before .before .before .if1 .left))
-    (as-shown (a .out .now) (execute-read (a .settings) block zero ∙ carried (a .settings) (sym kind) (sym (c .before .before .before .before .«data» .ensures)))
+    (as-shown (a .out .now) (execute-read (a .settings) block zero ∙ carried (a .settings) (sym kind) between)
     (c .before .before .carry .ensures))
 
 pub execute-spec : {M : Type 1} → statement M
@@ -84,7 +99,10 @@ execute-spec =
     returns-2
     shared-slice-read-find
     find-requires
-    data-requires
+    sub-end
+    sub-carry
+    part-carry-start
+    part-carry-end
     carry-requires
     same-length-2
     returns-3)

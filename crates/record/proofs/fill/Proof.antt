@@ -6,7 +6,7 @@ use native.Mathlib.Nat.{sub-zero}
 use native.Mathlib.Omega.{arith}
 use borrow.Author.Needs.{needs}
 use lib.ListN.{length, take, length-set}
-use Rattle.record.specs.Bytes.{lowBytes}
+use Rattle.packed.specs.Numbers.{lowBytes}
 use Rattle.record.proofs.Bytes.{fill-more, fill-end}
 use Rattle.record.proofs.fill.Statement.{statement}
 use Rattle.record.proofs.fill.Tie as tie

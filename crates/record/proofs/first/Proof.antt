@@ -1,7 +1,7 @@
 -- `record::first` meets its contract: each byte of a number is read by itself.
 use borrow.Author.Needs.{needs}
 use Rattle.record.specs.Bytes.{entryOf}
-use Rattle.record.proofs.Bytes.{low-part}
+use Rattle.packed.proofs.Numbers.{low-part}
 use Rattle.record.proofs.first.Statement.{statement}
 use Rattle.record.proofs.first.Tie as tie
 

@@ -1,20 +1,24 @@
--- `Deck::begin` meets its contract: the byte is the first of the array, and alone counts.
+-- `Deck::begin` meets its contract: the byte is the first of the block, and alone counts.
 use mathlib.Core.Path.{_≡_, refl}
+use mathlib.Core.List.{[], _∷_}
 use native.Mathlib.Omega.{arith}
 use borrow.Author.Needs.{needs}
-use lib.ListN.{length, length-map}
-use lib.Seq.{take-suc-set}
+use lib.ListN.{take}
+use Rattle.packed.specs.Packed.{packed, unpacked}
+use Rattle.packed.proofs.Packing.{packed-back}
+use Rattle.deck.proofs.Made.{made-more}
 use Rattle.deck.proofs.Deck.begin.Statement.{statement}
 use Rattle.deck.proofs.Deck.begin.Tie as tie
 
-element-write-self : tie.Need-element-write-self
-element-write-self c = search needs
+put-requires : tie.Need-put-requires
+put-requires c κs = search needs
 
 returns : tie.Need-returns
 returns c =
-    let d = c .args .t1 in
-    let size : length (d .block) ≡ 18 = simp length-map at (c .good .0 .1 .1 .1 .1 .1 .1 .0 .1 .0 .1) in
-    (rw (take-suc-set (d .block) 0 (c .args .content) (omega arith)), refl)
+    let b = c .before .before .args .content in
+    let p = c .put .ensures in
+    let l : take 1 (unpacked (packed (b ∷ []))) ≡ b ∷ [] = packed-back (b ∷ []) (omega arith, tt) (omega arith) in
+    (rw (p, l), refl, made-more _ (b ∷ []) 1 refl (omega arith) p l)
 
 pub begin-spec : {M : Type 1} → statement M
-begin-spec = tie.close (tie.spec element-write-self returns)
+begin-spec = tie.close (tie.spec put-requires returns)

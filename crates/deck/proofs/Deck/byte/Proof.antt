@@ -1,9 +1,10 @@
 -- `Deck::byte` meets its contract.
-use mathlib.Core.Path.{sym, _∙_}
+use mathlib.Core.Path.{refl, sym, _∙_}
 use borrow.Author.Needs.{needs}
 use Rattle.deck.specs.Line.{byte}
 use Rattle.deck.specs.Calls.{refusal, view}
 use Rattle.deck.proofs.Found.{byte-in-time}
+use Rattle.deck.proofs.Made.{made-so}
 use Rattle.deck.proofs.Numbers.{in-range, refuses, takes}
 use Rattle.deck.proofs.Deck.byte.Statement.{statement}
 use Rattle.deck.proofs.Deck.byte.Tie as tie
@@ -42,7 +43,7 @@ returns-2 c =
     let n = e .before .refusal in
     let l = c .before .before .late in
     takes (a .self) (byte (a .time) (a .content) (a .flags)) (a .out .now) (n .result) (n .ensures) (l .result) _
-    (e .if1 .left) (l .ensures)
+    (e .if1 .left) (l .ensures .0) (λ _. l .ensures .1)
 
 heard-requires : tie.Need-heard-requires
 heard-requires c κs =
@@ -63,7 +64,7 @@ returns-3 c =
     let h = c .before .before .heard in
     takes (a .self) (byte (a .time) (a .content) (a .flags)) (a .out .now) (n .result) (n .ensures) (h .result) _ (e .if1 .left)
     (rw (byte-in-time (view (a .self)) (a .time) (a .content) (a .flags)
-    (sym (t .timed-out .ensures) ∙ c .before .before .before .before .if2 .left)) (h .ensures))
+    (sym (t .timed-out .ensures) ∙ c .before .before .before .before .if2 .left)) (h .ensures .0)) (λ m. h .ensures .1 (made-so _ _ refl refl m))
 
 pub byte-spec : {M : Type 1} → statement M
 byte-spec =

@@ -1,9 +1,11 @@
 -- `Deck::cassette` meets its contract: a look, and the cassette loaded.
+use mathlib.Core.Path.{refl}
 use borrow.Author.Needs.{needs}
 use Rattle.settings.specs.Settings.{loaded}
 use Rattle.deck.specs.Line.{cassette, looked}
 use Rattle.deck.specs.Calls.{view}
 use Rattle.deck.proofs.Steps.{answers-other}
+use Rattle.deck.proofs.Made.{made-so}
 use Rattle.deck.proofs.Numbers.{in-range, refuses, takes}
 use Rattle.deck.proofs.Seen.{resettled}
 use Rattle.deck.proofs.Deck.cassette.Statement.{statement}
@@ -48,7 +50,8 @@ returns-2 c =
     takes (a .self) (cassette (a .time)) (a .out .now) (n .result) (n .ensures) (r .result) _ (t .if1 .left)
     (rw (answers-other (view (a .self)) (cassette (a .time)) tt)
     (resettled loaded (a .time) (looked (view (a .self)) (a .time)) (a .out .now) _ (l .result) (r .result)
-    (l .ensures) (rw (c .before .load .ensures) at (r .ensures))))
+    (l .ensures .0) (rw (c .before .load .ensures) at (r .ensures))))
+    (λ m. r .ensures .5 (l .ensures .1 (made-so _ _ refl refl m)))
 
 pub cassette-spec : {M : Type 1} → statement M
 cassette-spec =

@@ -12,9 +12,11 @@ said-requires c κs = search needs
 
 returns : tie.Need-returns
 returns c =
-    let a = c .before .before .before .before .args in
-    rw (byte-dropped (view (a .self)) (a .time) (a .content) (a .flags) (c .before .if1 .taken))
-    (silent 0 (a .self) (c .said .result) (a .out .now) (c .said .ensures))
+    let a = c .before .before .before .before .args in (
+      rw (byte-dropped (view (a .self)) (a .time) (a .content) (a .flags) (c .before .if1 .taken))
+          (silent 0 (a .self) (c .said .result) (a .out .now) (c .said .ensures)),
+      λ m. rw (c .said .ensures .1) m,
+    )
 
 nak-requires : tie.Need-nak-requires
 nak-requires c κs = search needs
@@ -26,8 +28,8 @@ returns-2 : tie.Need-returns-2
 returns-2 c =
     let t = c .before .before .before .before in
     let a = t .before .before .before .before .args in
-    rw (byte-flagged (view (a .self)) (a .time) (a .content) (a .flags) (t .before .if1 .left) (t .if2 .taken))
-    (c .before .before .nak .ensures)
+    let n = c .before .before .nak .ensures in
+    (rw (byte-flagged (view (a .self)) (a .time) (a .content) (a .flags) (t .before .if1 .left) (t .if2 .taken)) (n .0), λ _. n .1)
 
 clean-requires : tie.Need-clean-requires
 clean-requires c κs = search needs
@@ -39,8 +41,8 @@ returns-3 : tie.Need-returns-3
 returns-3 c =
     let t = c .before .before .before .before in
     let a = t .before .before .before .before .args in
-    rw (byte-clean (view (a .self)) (a .time) (a .content) (a .flags) (t .before .if1 .left) (t .if2 .left))
-    (c .before .before .clean .ensures)
+    let n = c .before .before .clean .ensures in
+    (rw (byte-clean (view (a .self)) (a .time) (a .content) (a .flags) (t .before .if1 .left) (t .if2 .left)) (n .0), λ _. n .1)
 
 pub heard-spec : {M : Type 1} → statement M
 heard-spec =

@@ -18,7 +18,7 @@ use Rattle.deck.proofs.Deck.late.Tie as tie
 
 -- the deck after the time-out is free when the definition says
 free : (c : tie.After-nak) → c .nak .result .deck .free ≡ missed (view (c .before .before .before .before .args .self)) .deck .free
-free c = ap (λ (x : Call). x .deck .free) (c .nak .ensures)
+free c = ap (λ (x : Call). x .deck .free) (c .nak .ensures .0)
 
 add-nak : tie.Need-add-nak
 add-nak c =
@@ -39,8 +39,7 @@ returns c =
     let s = n .before .before .before .before in
     let a = s .args in
     let k = n .nak .ensures in
-    rw (late-in-quiet (view (a .self)) (a .time) (a .content) (a .flags) (s .pre .0)
-    (rw (← free n) (c .if1 .taken))) k
+    (rw (late-in-quiet (view (a .self)) (a .time) (a .content) (a .flags) (s .pre .0) (rw (← free n) (c .if1 .taken))) (k .0), k .1)
 
 sub-nak : tie.Need-sub-nak
 sub-nak c = search needs
@@ -66,18 +65,20 @@ returns-2 c =
     let n = e .before .before .before .before .before in
     let s = n .before .before .before .before in
     let a = s .args in
-    let k = n .nak .ensures in
+    let k = n .nak .ensures .0 in
     let m = c .before .before .before .nak2 .ensures in
     let v = c .void .ensures in
     let part = midOf 4 (length (n .nak .last .1 .1 .1 .0) - 4) (n .nak .last .1 .1 .1 .0) in
-    let room : 4 ≤ length part = simp (length-take, length-drop) (omega arith) in
-    rw (late-flagged (view (a .self)) (a .time) (a .content) (a .flags) (s .pre .0) (rw (← free n) (e .if1 .left))
-    (c .before .before .before .before .before .if2 .taken))
-    (same-call refl (v .1 ∙ ap (λ (x : Call). x .clock) k)
-    (v .0 ∙ ap (λ (x : Call). voided (x .deck) (a .flags) (a .time) .deck) k)
-    (ap (λ (x : Call). x .first) k) (rw (m .0, nak-answer (a .flags) part room))
-    (behind (nak timeOut) (nak (a .flags)) (a .out .now) _ _ 4 4 refl (ap (λ (x : Call). x .out) k)
-    (m .1 ∙ nak-output (a .flags) part room)))
+    let room : 4 ≤ length part = simp (length-take, length-drop) (omega arith) in (
+      rw (late-flagged (view (a .self)) (a .time) (a .content) (a .flags) (s .pre .0) (rw (← free n) (e .if1 .left))
+          (c .before .before .before .before .before .if2 .taken))
+          (same-call refl (v .1 ∙ ap (λ (x : Call). x .clock) k)
+          (v .0 ∙ ap (λ (x : Call). voided (x .deck) (a .flags) (a .time) .deck) k)
+          (ap (λ (x : Call). x .first) k) (rw (m .0, nak-answer (a .flags) part room))
+          (behind (nak timeOut) (nak (a .flags)) (a .out .now) _ _ 4 4 refl (ap (λ (x : Call). x .out) k)
+          (m .1 ∙ nak-output (a .flags) part room))),
+      v .2,
+    )
 
 begin-requires : tie.Need-begin-requires
 begin-requires c κs = search needs
@@ -91,13 +92,15 @@ returns-3 c =
     let n = e .before .before .before .before .before in
     let s = n .before .before .before .before in
     let a = s .args in
-    let k = n .nak .ensures in
-    let v = c .begin .ensures in
-    rw (late-clean (view (a .self)) (a .time) (a .content) (a .flags) (s .pre .0) (rw (← free n) (e .if1 .left))
-    (c .before .if2 .left))
-    (same-call refl (v .1 ∙ ap (λ (x : Call). x .clock) k)
-    (v .0 ∙ ap (λ (x : Call). deck (a .content ∷ []) (a .time) (x .deck .free) (x .deck .settings)) k)
-    (ap (λ (x : Call). x .first) k) refl (ap (λ (x : Call). x .out) k))
+    let k = n .nak .ensures .0 in
+    let v = c .begin .ensures in (
+      rw (late-clean (view (a .self)) (a .time) (a .content) (a .flags) (s .pre .0) (rw (← free n) (e .if1 .left))
+          (c .before .if2 .left))
+          (same-call refl (v .1 ∙ ap (λ (x : Call). x .clock) k)
+          (v .0 ∙ ap (λ (x : Call). deck (a .content ∷ []) (a .time) (x .deck .free) (x .deck .settings)) k)
+          (ap (λ (x : Call). x .first) k) refl (ap (λ (x : Call). x .out) k)),
+      v .2,
+    )
 
 pub late-spec : {M : Type 1} → statement M
 late-spec =

@@ -1,8 +1,10 @@
 -- `Deck::look` meets its contract.
+use mathlib.Core.Path.{refl}
 use borrow.Author.Needs.{needs}
 use Rattle.deck.specs.Line.{look}
 use Rattle.deck.specs.Calls.{view}
 use Rattle.deck.proofs.Steps.{look-alone}
+use Rattle.deck.proofs.Made.{made-so}
 use Rattle.deck.proofs.Numbers.{in-range, refuses, takes}
 use Rattle.deck.proofs.Deck.look.Statement.{statement}
 use Rattle.deck.proofs.Deck.look.Tie as tie
@@ -36,7 +38,7 @@ returns-2 c =
     let n = t .before .refusal in
     let l = c .before .before .looked in
     takes (a .self) (look (a .time)) (a .out .now) (n .result) (n .ensures) (l .result) _ (t .if1 .left)
-    (rw (look-alone (view (a .self)) (a .time)) (l .ensures))
+    (rw (look-alone (view (a .self)) (a .time)) (l .ensures .0)) (λ m. l .ensures .1 (made-so _ _ refl refl m))
 
 pub look-spec : {M : Type 1} → statement M
 look-spec =

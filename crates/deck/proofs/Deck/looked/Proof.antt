@@ -34,7 +34,8 @@ returns : tie.Need-returns
 returns c =
     let t = c .before .before .before .before .before in
     let a = t .before .before .before .args in
-    rw (look-found (view (a .self)) (a .time) (late t)) (c .before .before .nak .ensures)
+    let n = c .before .before .nak .ensures in
+    (rw (look-found (view (a .self)) (a .time) (late t)) (n .0), λ _. n .1)
 
 said-requires : tie.Need-said-requires
 said-requires c κs = search needs
@@ -42,9 +43,11 @@ said-requires c κs = search needs
 returns-2 : tie.Need-returns-2
 returns-2 c =
     let t = c .before .before in
-    let a = t .before .before .args in
-    rw (look-nothing (view (a .self)) (a .time) (sym (t .timed-out .ensures) ∙ c .before .if1 .left))
-    (silent 0 (a .self) (c .said .result) (a .out .now) (c .said .ensures))
+    let a = t .before .before .args in (
+      rw (look-nothing (view (a .self)) (a .time) (sym (t .timed-out .ensures) ∙ c .before .if1 .left))
+          (silent 0 (a .self) (c .said .result) (a .out .now) (c .said .ensures)),
+      λ m. rw (c .said .ensures .1) m,
+    )
 
 pub looked-spec : {M : Type 1} → statement M
 looked-spec =

@@ -28,7 +28,7 @@ returns c =
     let e = c .said .ensures in
     let z = nak-answer (a .why) (a .out .now) (omega arith) in
     let y = nak-output (a .why) (a .out .now) (omega arith) in
-    same-call (e .0) (rw (e .1) (v .1)) (rw (e .1) (v .0)) (rw (e .2, n .0, z)) (e .3) (n .1 ∙ y)
+    (same-call (e .0) (rw (e .1) (v .1)) (rw (e .1) (v .0)) (rw (e .2, n .0, z)) (e .3) (n .1 ∙ y), rw (e .1) (v .2))
 
 pub nak-spec : {M : Type 1} → statement M
 nak-spec = tie.close (tie.spec nak-requires void-requires said-requires same-length returns)

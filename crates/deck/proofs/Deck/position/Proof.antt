@@ -1,9 +1,11 @@
 -- `Deck::position` meets its contract: a look, and the position set.
+use mathlib.Core.Path.{refl}
 use borrow.Author.Needs.{needs}
 use Rattle.settings.specs.Settings.{withPosition}
 use Rattle.deck.specs.Line.{position, looked}
 use Rattle.deck.specs.Calls.{view}
 use Rattle.deck.proofs.Steps.{answers-other}
+use Rattle.deck.proofs.Made.{made-so}
 use Rattle.deck.proofs.Numbers.{in-range, refuses, takes}
 use Rattle.deck.proofs.Seen.{resettled}
 use Rattle.deck.proofs.Deck.position.Statement.{statement}
@@ -45,7 +47,7 @@ returns-2 c =
     takes (a .self) (position (a .time) (a .place)) (a .out .now) (n .result) (n .ensures) (r .result) _ (t .if1 .left)
     (rw (answers-other (view (a .self)) (position (a .time) (a .place)) tt)
     (resettled (withPosition (a .place)) (a .time) (looked (view (a .self)) (a .time)) (a .out .now) _ (l .result) (r .result)
-    (l .ensures) (r .ensures)))
+    (l .ensures .0) (r .ensures))) (λ m. r .ensures .5 (l .ensures .1 (made-so _ _ refl refl m)))
 
 pub position-spec : {M : Type 1} → statement M
 position-spec =

@@ -5,7 +5,8 @@ use mathlib.Core.Path.{_≡_}
 use native.Mathlib.Omega.{arith}
 use borrow.Author.Needs.{needs}
 use borrow.Author.Tests.{le-ltb}
-use lib.ListN.{length, length-map}
+use Rattle.packed.specs.Packed.{unpacked}
+use Rattle.packed.proofs.Packing.{length-unpacked}
 use Rattle.deck.proofs.Late.{opened, past}
 use Rattle.deck.proofs.Deck.timed_out.Statement.{statement}
 use Rattle.deck.proofs.Deck.timed_out.Tie as tie
@@ -25,8 +26,7 @@ returns-3 : tie.Need-returns-3
 returns-3 c =
     let s = c .before .before .before .before .before in
     let d = s .args .self in
-    let size : length (d .block) ≡ 18 = simp length-map at (s .good .0 .1 .1 .1 .1 .1 .1 .0 .1 .0 .1) in
-    rw (opened (d .held) (d .block) (c .before .before .before .if1 .left) (omega arith), past)
+    rw (opened (d .held) (unpacked (d .block)) (c .before .before .before .if1 .left) (omega (arith, length-unpacked (d .block))), past)
 
 pub timed-out-spec : {M : Type 1} → statement M
 timed-out-spec = tie.close (tie.spec returns returns-2 sub-result returns-3)

@@ -1,15 +1,13 @@
 -- `Marker::begins` meets its contract.
 use mathlib.Core.Path.{_≡_}
 use native.Mathlib.Omega.{arith}
-use lib.ListN.{length, length-map}
+use Rattle.packed.specs.Packed.{unpacked}
+use Rattle.packed.proofs.Packing.{length-unpacked}
 use Rattle.deck.proofs.Late.{opened}
 use Rattle.marker.proofs.Forms.{no-controller}
 use Rattle.marker.proofs.Tests.{shut}
 use Rattle.marker.proofs.Marker.begins.Statement.{statement}
 use Rattle.marker.proofs.Marker.begins.Tie as tie
-
-long : (c : tie.Start) → length (c .args .self .deck .block) ≡ 18
-long c = simp length-map at (c .good .0 .1 .1 .0 .1 .1 .1 .1 .1 .1 .0 .1 .0 .1)
 
 returns : tie.Need-returns
 returns c = rw (no-controller (c .before .before .args .e .kind) (c .if1 .taken))
@@ -18,12 +16,12 @@ returns-2 : tie.Need-returns-2
 returns-2 c =
     let s = c .before .before .before .before .before in
     let d = s .args .self .deck in
-    rw (c .before .before .before .if1 .left, opened (d .held) (d .block) (c .if2 .taken) (omega (arith, long s)))
+    rw (c .before .before .before .if1 .left, opened (d .held) (unpacked (d .block)) (c .if2 .taken) (omega (arith, length-unpacked (d .block))))
 
 returns-3 : tie.Need-returns-3
 returns-3 c =
     let d = c .before .before .before .before .before .before .before .args .self .deck in
-    rw (c .before .before .before .before .before .if1 .left, shut (d .held) (d .block) (c .before .before .if2 .left))
+    rw (c .before .before .before .before .before .if1 .left, shut (d .held) (unpacked (d .block)) (c .before .before .if2 .left))
 
 pub begins-spec : {M : Type 1} → statement M
 begins-spec = tie.close (tie.spec returns returns-2 returns-3)

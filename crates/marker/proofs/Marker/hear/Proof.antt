@@ -12,8 +12,8 @@ use Rattle.marker.proofs.Marker.hear.Tie as tie
 abbrev event : tie.Start → Event
 event c = byte (c .args .time) (c .args .content) (c .args .flags)
 
-taken : (c : tie.Start) → number 20 (c .args .self .deck .clock) (event c) ≡ 0
-taken c = unrefused 20 _ _ (c .args .flags) 0 (omega arith) (omega (arith, c .pre .0)) (c .pre .1) (c .pre .2) (omega arith)
+taken : (c : tie.Start) → number 24 (c .args .self .deck .clock) (event c) ≡ 0
+taken c = unrefused 24 _ _ (c .args .flags) 0 (omega arith) (omega (arith, c .pre .0)) (c .pre .1) (c .pre .2) (omega arith)
 
 brief : (c : tie.Start) → Brief (c .args .time) (answers (view (c .args .self .deck)) (event c) .replies)
 brief c = brief-soon (view (c .args .self .deck)) (event c) (c .pre .3)

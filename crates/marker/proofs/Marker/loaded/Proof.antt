@@ -12,8 +12,8 @@ use Rattle.marker.proofs.Marker.loaded.Tie as tie
 abbrev event : tie.Start → Event
 event c = cassette (c .args .time)
 
-taken : (c : tie.Start) → number 20 (c .args .self .deck .clock) (event c) ≡ 0
-taken c = unrefused 20 _ _ 0 0 (omega arith) (omega (arith, c .pre .0)) (c .pre .1) refl (omega arith)
+taken : (c : tie.Start) → number 24 (c .args .self .deck .clock) (event c) ≡ 0
+taken c = unrefused 24 _ _ 0 0 (omega arith) (omega (arith, c .pre .0)) (c .pre .1) refl (omega arith)
 
 brief : (c : tie.Start) → Brief (c .args .time) (answers (view (c .args .self .deck)) (event c) .replies)
 brief c = brief-soon (view (c .args .self .deck)) (event c) (c .pre .2)

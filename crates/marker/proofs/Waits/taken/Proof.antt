@@ -1,16 +1,12 @@
 -- `Waits::taken` meets its contract.
 use Prim.Native.Nat.{ℕ, _+_}
-use mathlib.Core.Path.{_≡_, ap}
+use mathlib.Core.Path.{ap}
 use mathlib.Core.List.{List}
 use Rattle.record.specs.Machine.{waiting}
-use lib.ListN.{length, length-map}
 use Rattle.marker.proofs.Left.{more-left, still-none}
 use borrow.Author.Needs.{needs}
 use Rattle.marker.proofs.Waits.taken.Statement.{statement}
 use Rattle.marker.proofs.Waits.taken.Tie as tie
-
-long : (c : tie.Start) → length (c .args .self .reply) ≡ 20
-long c = simp length-map at (c .good .0 .1 .1 .0 .1 .0 .1)
 
 add-self : tie.Need-add-self
 add-self c = search needs
@@ -21,12 +17,12 @@ add-self-2 c = search needs
 returns : tie.Need-returns
 returns c =
     let a = c .before .before .before in
-    ap (λ (l : List ℕ). waiting l (a .args .time + 10000)) (more-left (a .args .self) (long a))
+    ap (λ (l : List ℕ). waiting l (a .args .time + 10000)) (more-left (a .args .self))
 
 returns-2 : tie.Need-returns-2
 returns-2 c =
     let a = c .before .before in
-    ap (λ (l : List ℕ). waiting l (a .args .time + 10000)) (still-none (a .args .self) (long a) (c .if1 .left))
+    ap (λ (l : List ℕ). waiting l (a .args .time + 10000)) (still-none (a .args .self) (c .if1 .left))
 
 pub taken-spec : {M : Type 1} → statement M
 taken-spec = tie.close (tie.spec add-self add-self-2 returns returns-2)

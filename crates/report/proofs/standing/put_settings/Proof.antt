@@ -38,7 +38,7 @@ returns c =
     let l = b .put-hex-line .ensures in
     let e = b .before .before .before .before .status .ensures in
     let t = c .before .before .before .before .before .before .before .put-times .ensures in
-    let fits : SFits w32 (s .speed) = record { sfits = c .before .before .before .struct-told .given .1 .1 .0 .1 } in
+    let fits : SFits w32 (s .speed) = record { sfits = c .before .before .before .struct-told .given .1 .1 .1 .0 .1 } in
     let v = rw (toZ-ofZ w32 (s .speed) fits) at (c .before .before .put-speed .ensures) in
     (joined (rw e at (l .0)) (joined (t .0) (v .0)), omega (arith, l .1, t .1, v .1))
 

@@ -31,9 +31,9 @@ returns : tie.Need-returns
 unfolding timeLines
 returns c =
     let o = c .before .before .put-time3 .ensures in
-    let b = c .before .before .before .before .before .before .before .before in
+    let b = c .before .before .before .before .before .before .before in
     let i = b .put-time2 .ensures in
-    let t = b .before .before .before .before .before .before .put-time .ensures in
+    let t = b .before .before .before .before .before .put-time .ensures in
     (joined (t .0) (joined (i .0) (o .0)), omega (arith, t .1, i .1, o .1))
 
 pub put-times-spec : {M : Type 1} → statement M

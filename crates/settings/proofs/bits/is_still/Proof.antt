@@ -18,7 +18,7 @@ returns c =
     let j = c .before .before in
     rw (
       c .is-zero .ensures,
-      back (j .before .before .args .s .speed) (c .before .struct-told .given .1 .1 .0 .1),
+      back (j .before .before .args .s .speed) (c .before .struct-told .given .1 .1 .1 .0 .1),
       ← j .before .mode-no .ensures,
     )
     (⊎-elim

@@ -40,7 +40,7 @@ returns c =
       c .before .before .before .before .mode-no .ensures,
       c .before .before .before .is-still .ensures,
       c .before .below-zero .ensures,
-      back (s .speed) (c .before .before .struct-told .given .1 .1 .0 .1),
+      back (s .speed) (c .before .before .struct-told .given .1 .1 .1 .0 .1),
     )
     (byte2 s .is)
 

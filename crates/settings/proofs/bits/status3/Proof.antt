@@ -11,7 +11,7 @@ cast-result-2 : tie.Need-cast-result-2
 cast-result-2 c = search needs
 
 returns : tie.Need-returns
-returns c = byte3 (c .before .before .before .before .args .s) .is
+returns c = byte3 (c .before .before .args .s) .is
 
 pub status3-spec : {M : Type 1} → statement M
 status3-spec = tie.close (tie.spec cast-result cast-result-2 returns)

@@ -1,0 +1,33 @@
+-- `Marker::reply_byte` meets its contract.
+use borrow.Author.Needs.{needs}
+use borrow.Author.Tests.{not-false}
+use Rattle.marker.specs.Steps.{Expected}
+use Rattle.marker.proofs.Passing.{untaken, arrives}
+use Rattle.marker.proofs.Marker.reply_byte.Statement.{statement}
+use Rattle.marker.proofs.Marker.reply_byte.Tie as tie
+
+expected : (c : tie.Else1) → (let a = c .before .before .args in Expected (a .self) (a .e))
+expected c = c .before .comes .ensures (not-false _ (c .if1 .left))
+
+comes-requires : tie.Need-comes-requires
+comes-requires c κs = search needs
+
+heavy-requires : tie.Need-heavy-requires
+heavy-requires c κs = search needs
+
+returns : tie.Need-returns
+returns c = untaken _ (c .heavy .ensures)
+
+taken-requires : tie.Need-taken-requires
+taken-requires c κs = expected (c .before .before) .range
+
+returns-2 : tie.Need-returns-2
+returns-2 c = λ p.
+    let x = c .before .before .before in
+    let s = x .before .before in
+    let a = s .args in
+    arrives (a .self) (a .e) (s .pre .1) (s .pre .0) (expected x) (c .taken .result) (c .taken .ensures)
+
+pub reply-byte-spec : {M : Type 1} → statement M
+reply-byte-spec =
+    tie.close (tie.spec comes-requires heavy-requires returns taken-requires returns-2)

@@ -1,0 +1,5 @@
+-- The laws that belong to no function.
+pub mod Bytes
+pub mod Numbers
+pub mod Units
+pub mod Packing

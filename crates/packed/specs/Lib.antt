@@ -1,0 +1,3 @@
+-- What the contracts of `packed` mean.
+pub mod Numbers
+pub mod Packed
