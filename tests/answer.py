@@ -1,15 +1,14 @@
 #!/usr/bin/env python3
 """Makes crates/answer/stdin, a record of the greatest length that mixes all a deck may be handed, and stdout, what `answer` must print.
 
-Run at the top of the repository; `--check` compares the two files instead of writing them. The lines are those of docs/TEACHERS.md, the
-replies those of tests/deck.py.
+`--check` compares the two files instead of writing them. The lines are those of docs/TEACHERS.md, the replies those of tests/deck.py.
 """
 import random
 
 from deck import TAKEN, Deck, block, to_time
 from deck_cases import FIT, PLACES, UNFIT, any_bytes, below, chance, hexes, one_of, sum_wrong
 from marks import CASSETTE, CONTROLLER, DECK, LONGEST, POSITION, Entry, entries_of, hand_any, record_of
-from stored import store
+from stored import checking, store
 
 # ---- what `answer` prints
 
@@ -71,6 +70,7 @@ def mixed():
 
 
 def main():
+    checking()
     play = record_of(Entry(CONTROLLER, 0, byte, 300 * at) for at, byte in enumerate(b"\x20\x01\x21"))
     assert transcript(play).startswith("reply 600 10 01 11\nstatus 01 01 00 00 ") and transcript(play[1:]) == "refused 10\n"
     record = mixed()

@@ -2,10 +2,12 @@
 """The deck of document 01 (the paper of rules; see README.md), written from that paper and its two sources alone, by an author who had
 seen neither code nor definitions. Sentences in quotation marks are document 01's.
 
-Run as a script it checks itself on that paper's examples, and prints nothing.
+Run as a script, with `--check` or without, it compares itself with that paper's examples; it writes nothing.
 """
 from copy import deepcopy
 from math import isqrt
+
+from stored import checking
 
 TAKEN, ROOM, LATE, BACK, FLAGS, PLACE = range(6)
 LATEST = 281_474_976_710_655  # LATE: "time over 281,474,976,710,655"
@@ -424,11 +426,13 @@ def check_refusals():
     assert vars(deck) == before
 
 
+def main():
+    checking()
+    checks = [check_lines, check_times, check_late_finding, check_marked_block, check_speeds, check_positions, check_refusals]
+    for check in checks:
+        check()
+    print(f"deck: the examples of document 01, {len(checks)} kinds, hold")
+
+
 if __name__ == "__main__":
-    check_lines()
-    check_times()
-    check_late_finding()
-    check_marked_block()
-    check_speeds()
-    check_positions()
-    check_refusals()
+    main()

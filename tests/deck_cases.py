@@ -1,13 +1,13 @@
 #!/usr/bin/env python3
 """Makes crates/deck_cases/stdin (events) and stdout (what decks must give, by tests/deck.py).
 
-Run at the top of the repository; `--check` compares the two files instead of writing them. An event of stdin is a letter, the size of
-the lent output, a time in eight bytes, a length and that many argument bytes. Numbers stand lowest byte first.
+`--check` compares the two files instead of writing them. An event of stdin is a letter, the size of the lent output, a time in eight
+bytes, a length and that many argument bytes. Numbers stand lowest byte first.
 """
 import random
 
 from deck import DAY, LATEST, SPEEDS, Deck, block, speed, to_time
-from stored import store
+from stored import checking, store
 
 # ---- cases: each is a sequence of events for a deck of its own, kept for both files
 
@@ -358,6 +358,28 @@ def order_cases():
                 s.end()
 
 
+def refused_later_cases():
+    """A refused event tells the deck no time: what comes earlier than it is still taken, and what is too early is still refused."""
+    for refused in [lambda s: s.position(DAY, 6_000), lambda s: s.send(b"\x21", flags=0x80, wait=6_000),
+                    lambda s: s.cassette(6_000, room=17), lambda s: s.look(LATEST), lambda s: s.position(5, -6_000)]:
+        s = Sequence(9_000)
+        s.send(b"\x20\x01")
+        clock = s.time
+        refused(s)
+        for time in [clock - 1, clock + 1]:
+            s.time = time
+            s.send(b"\x21")
+        s.end()
+
+
+def loading_cases():
+    """What loading a cassette leaves as it is, out or in: all is set otherwise than at power-on."""
+    for steps in ["@7 20.05 20.01 20.0F", "@7 20.05 20.01", "24.31:09000000 20.05"]:
+        s = Sequence()
+        prepare(s, f"{steps} 00.0C 40.10 40.11 40.18 load 61.20:0D 61.0C:01 60.10 60.11")
+        s.end()
+
+
 def length_cases():
     """Blocks of every length, complete, with a wrong checksum, cut short and left open."""
     for count in range(16):
@@ -439,10 +461,11 @@ def random_refused(s):
 
 
 def main():
+    checking()
     random.seed(1)  # only random.random() is used: Python keeps its sequence from version to version
     assert [speed(n) for n in (0, 42, 58, 64, 84, 103)] == [0, 205, 649, 1000, 4216, 16548]
     for cases in [example_cases, command_cases, data_cases, code_cases, speed_cases, gap_cases, quiet_cases, late_cases, flag_cases,
-                  time_cases, place_cases, room_cases, order_cases, length_cases, random_cases]:
+                  time_cases, place_cases, room_cases, order_cases, refused_later_cases, loading_cases, length_cases, random_cases]:
         cases()
     store("deck_cases", {"stdin": bytes(stdin), "stdout": "".join(stdout).encode()},
           f"{counts['sequences']} sequences, {counts['events']} events")

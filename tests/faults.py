@@ -1,13 +1,12 @@
 #!/usr/bin/env python3
-"""Writes an example record for each fault into a folder: `python3 tests/faults.py FOLDER`, at the top of the repository.
+"""Makes examples/, a record for each fault and a sound one, and crates/mark/stdin and stdout, document 01's example of a record.
 
-Each file is named after what it shows; docs/TEACHERS.md says of each what the student did and what `mark` prints.
+`--check` compares the files instead of writing them. Each example is named after what it shows; docs/TEACHERS.md says of each what the
+student did.
 """
-import sys
-from pathlib import Path
-
 from mark_cases import Line
-from marks import CASSETTE, CONTROLLER, DECK, POSITION, mark, record_of
+from marks import CASSETTE, CONTROLLER, DECK, POSITION, mark, record_of, text
+from stored import checking, store, store_in
 
 PLAY, STOP = b"\x20\x01\x21", b"\x20\x00\x20"
 
@@ -23,14 +22,34 @@ RECORDS = {
 }
 
 
-def main():
-    folder = Path(sys.argv[1])
-    folder.mkdir(parents=True, exist_ok=True)
+def marked(line):
+    """The record, and what the marker says of it."""
+    record = record_of(line.entries)
+    return record, mark(record, len(line.entries))
+
+
+def examples():
+    made = {}
     for name, line in RECORDS.items():
-        record = record_of(line.entries)
-        fault = mark(record, len(line.entries))[1]
+        made[name], (_, fault, _, _) = marked(line)
         assert name == (f"fault-{fault}" if fault else "sound")
-        (folder / name).write_bytes(record)
+    return made
+
+
+def program_files():
+    """'For entries 20, 01, 21 of kind 0 at 0, 300, 600 and 10, 01, 11 of kind 1 at 1000, 1300, 1600 it prints exactly two lines:
+    `sound 1` and `turn 0`.'"""
+    line = Line().turn(PLAY, wait=0)
+    assert [entry[2:] for entry in line.entries] == [(0x20, 0), (0x01, 300), (0x21, 600), (0x10, 1000), (0x01, 1300), (0x11, 1600)]
+    record, answer = marked(line)
+    assert text(*answer) == "sound 1\nturn 0\n"
+    return {"stdin": record, "stdout": text(*answer).encode()}
+
+
+def main():
+    checking()
+    store_in("examples", examples(), "a record for each fault and a sound one")
+    store("mark", program_files(), "document 01's example")
 
 
 if __name__ == "__main__":

@@ -1,17 +1,16 @@
 #!/usr/bin/env python3
 """Makes crates/leaf_cases/stdin (calls of the crates line, block, timecode and speed) and stdout (what each must return).
 
-Written from document 01 (the paper of rules; see README.md) alone. Run at the top of the repository; `--check` compares the two files instead of writing them.
-A case of stdin is a letter, a length and that many argument bytes. Numbers of four bytes stand lowest byte first.
+Written from document 01 (the paper of rules; see README.md) alone. `--check` compares the two files instead of writing them. A case of
+stdin is a letter, a length and that many argument bytes. Numbers of four bytes stand lowest byte first.
 """
 import random
 
-from stored import store
+from stored import checking, store
 
 DAY = 24 * 60 * 60 * 25  # positions of a day
 FILL = 0xAA  # what the program lends to the writer
 TAKEN, ROOM, PLACE, WORD, LENGTH, SUM, FIELD = 0, 1, 5, 6, 7, 8, 9
-random.seed(1)  # only random.random() is used: Python keeps its sequence from version to version
 
 
 # ---- the rules of document 01
@@ -229,13 +228,22 @@ def speed_cases():
         speed_case(n, 1)
 
 
-# What document 01 gives as numbers holds of the rules above.
-assert [receive(word)[1:] for word in (0x440, 0x600, 0x400)] == [(0x20, 0), (0, 0), (0, 0x10)]
-assert [speed(n, 0) for n in (42, 58, 64, 84, 103)] == [205, 649, 1000, 4216, 16548]
-assert time(2_159_999) == (TAKEN, bytes.fromhex("24595923")) and time(2_160_000)[0] == PLACE
-assert read(bytes.fromhex("200121"))[0] == TAKEN and read(bytes.fromhex("200122"))[0] == SUM
+def check_rules():
+    """What document 01 gives as numbers holds of the rules above."""
+    assert [receive(word)[1:] for word in (0x440, 0x600, 0x400)] == [(0x20, 0), (0, 0), (0, 0x10)]
+    assert [speed(n, 0) for n in (42, 58, 64, 84, 103)] == [205, 649, 1000, 4216, 16548]
+    assert time(2_159_999) == (TAKEN, bytes.fromhex("24595923")) and time(2_160_000)[0] == PLACE
+    assert read(bytes.fromhex("200121"))[0] == TAKEN and read(bytes.fromhex("200122"))[0] == SUM
 
-for cases in [line_cases, sum_cases, reader_cases, writer_cases, time_cases, speed_cases]:
-    cases()
 
-store("leaf_cases", {"stdin": bytes(stdin), "stdout": "".join(stdout).encode()}, f"{len(stdout)} cases")
+def main():
+    checking()
+    random.seed(1)  # only random.random() is used: Python keeps its sequence from version to version
+    check_rules()
+    for cases in [line_cases, sum_cases, reader_cases, writer_cases, time_cases, speed_cases]:
+        cases()
+    store("leaf_cases", {"stdin": bytes(stdin), "stdout": "".join(stdout).encode()}, f"{len(stdout)} cases")
+
+
+if __name__ == "__main__":
+    main()

@@ -1,18 +1,18 @@
 #!/usr/bin/env python3
 """Makes crates/mark_cases/stdin (records) and stdout (what the marker must say of them, by tests/marks.py and tests/marks_again.py).
 
-Run at the top of the repository; `--check` compares the two files instead of writing them. A case of stdin is the record's length and
-the number of table places lent, four bytes each, lowest first, and then the record. Its line in stdout has the number, the fault (0 if
-the record is sound), the place, the count and the turn starts.
+`--check` compares the two files instead of writing them. A case of stdin is the record's length and the number of table places lent,
+four bytes each, lowest first, and then the record. In stdout a line has the number, the fault (0 if the record is sound), the place and
+the count; then comes the text of the verdict, with the turn starts.
 """
 import random
 
 from deck import DAY, LATEST, Deck, block
 from deck_cases import FIT, PLACES, UNFIT, any_bytes, below, chance, one_of, sum_wrong
-from marks import (CASSETTE, CONTROLLER, DECK, LONGEST, POSITION, SOUND, STOPS, Entry, entries_of, finished, hand, mark, record_of,
+from marks import (CASSETTE, CONTROLLER, DECK, LONGEST, POSITION, SOUND, STOPS, Entry, entries_of, finished, hand, mark, record_of, text,
                    well_formed)
 from marks_again import mark as mark_again
-from stored import store
+from stored import checking, store
 
 stdin, stdout, said = bytearray(), [], {}
 
@@ -23,8 +23,7 @@ def record_case(record, places):
     no, fault, place, starts = mark(record, places)
     assert mark_again(record, places) == (no, fault, place, starts)
     stdin.extend(len(record).to_bytes(4, "little") + places.to_bytes(4, "little") + record)
-    turns = "".join(f" {start}" for start in starts)
-    stdout.append(f"no {no} fault {fault} place {place} count {len(starts)} turns{turns}\n")
+    stdout.append(f"{no} {fault} {place} {len(starts)}\n" + text(no, fault, place, starts))
     key = f"refused {no}" if no else fault or "sound"
     said[key] = said.get(key, 0) + 1
 
@@ -458,6 +457,7 @@ def short_records():
 
 
 def main():
+    checking()
     make()
     made_of = f"{sum(said.values())} records (" + ", ".join(f"{key} {said[key]}" for key in sorted(said, key=str)) + ")"
     store("mark_cases", {"stdin": bytes(stdin), "stdout": "".join(stdout).encode()}, made_of)

@@ -1,11 +1,12 @@
 #!/usr/bin/env python3
 """The marker of document 01 (the paper of rules; see README.md), written from that paper alone; and, apart from it, the turn rules.
 
-Run at the top of the repository it compares the two on short records; it writes nothing.
+Run as a script, with `--check` or without, it compares the two on short records; it writes nothing.
 """
 from typing import NamedTuple
 
 from deck import DAY, FLAG_BITS, TAKEN, ROOM, Deck
+from stored import checking
 
 RECORD = 10
 SOUND, MALFORMED, FALLS, NOT_AWAITED, DIFFERS, OVERDUE, WHILE_AWAITED, STOPS = 0, *range(20, 27)
@@ -70,6 +71,15 @@ def mark(record, places):
         if fault:
             return TAKEN, fault, place, marker.starts
     return TAKEN, STOPS if marker.inside_turn() else SOUND, len(entries), marker.starts
+
+
+def text(no, fault, place, starts):
+    """'A fault's first line is as `fault 24 at 3`, numbers decimal; turn lines follow sound and fault alike.
+    A refusal prints `refused 10` alone.'"""
+    if no:
+        return f"refused {no}\n"
+    first = f"fault {fault} at {place}\n" if fault else f"sound {len(starts)}\n"
+    return first + "".join(f"turn {start}\n" for start in starts)
 
 
 class Marker:
@@ -240,8 +250,9 @@ def fault_by_rules(before, entry):
 
 def main():
     """Compare mark and the rules: verdict, place and starts; and that no record has two cuttings."""
-    import mark_cases
+    import mark_cases  # which imports this file
 
+    checking()
     spread = {}
     for entries in mark_cases.short_records():
         _, *marked = mark(record_of(entries), len(entries))

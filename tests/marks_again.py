@@ -2,7 +2,7 @@
 """The marker of document 01 once more, and its turn rules by brute force, by an author who had read that paper and tests/deck.py, and
 neither code nor definitions nor tests/marks.py. Sentences in quotation marks are document 01's.
 
-Run as a script it compares the two on random short records.
+Run as a script, with `--check` or without, it compares the two on random short records; it writes nothing.
 """
 import random
 import struct
@@ -10,6 +10,7 @@ import time as clock
 from functools import lru_cache
 
 from deck import Deck, block
+from stored import checking
 
 BYTE, REPLY, POSITION, LOADED = range(4)  # "0 controller byte, 1 deck byte, 2 position, 3 cassette loaded"
 TAKEN, ROOM, RECORD = 0, 1, 10
@@ -393,8 +394,9 @@ def self_check(count=3_000, seed=1):
     verdicts = ", ".join(f"{fault or 'sound'}: {seen[fault]}" for fault in sorted(seen))
     ways = ", ".join(f"{makers[way]} {way}" for way in sorted(makers))
     took = check_speed(rng)
-    print(f"{count} records ({ways}) agree in fault, place and starts; {verdicts}; 5461 entries in {took:.2f} s")
+    print(f"marks_again: {count} records ({ways}) agree in fault, place and starts; {verdicts}; 5461 entries in {took:.2f} s")
 
 
 if __name__ == "__main__":
+    checking()
     self_check()

@@ -2,7 +2,7 @@
 """Makes stdin and stdout of the two programs that are timed: what they read, and what their loops must count.
 
 crates/timing has a sound record of the greatest length with every command in it, crates/timing_deck the bytes of one block for every
-command. Run at the top of the repository; `--check` compares the files instead of writing them.
+command. `--check` compares the files instead of writing them.
 """
 from itertools import cycle
 
@@ -10,7 +10,7 @@ from deck import Deck, block
 from deck_cases import FIT
 from mark_cases import Line
 from marks import LONGEST, POSITION, SOUND, TAKEN, mark, record_of
-from stored import store
+from stored import checking, store
 
 ROUNDS = 1_000  # as in crates/timing/src/main.rt
 DECK_ROUNDS = 20_000  # as in crates/timing_deck/src/main.rt
@@ -44,18 +44,20 @@ def marker_files():
     record = longest()
     no, fault, place, starts = mark(record, 5_461)
     assert (no, fault, place) == (TAKEN, SOUND, 5_461) and len(record) == LONGEST
-    return {"timing/stdin": record, "timing/stdout": f"turns {len(starts) * ROUNDS}\n".encode()}
+    return {"stdin": record, "stdout": f"turns {len(starts) * ROUNDS}\n".encode()}
 
 
 def deck_files():
     each = blocks()
     sent = b"".join(each)
     assert replies(sent, rounds=2) == 2 * len(each)
-    return {"timing_deck/stdin": sent, "timing_deck/stdout": f"replies {len(each) * DECK_ROUNDS}\n".encode()}
+    return {"stdin": sent, "stdout": f"replies {len(each) * DECK_ROUNDS}\n".encode()}
 
 
 def main():
-    store(".", marker_files() | deck_files(), "timing and timing_deck")  # in one call, as it ends the script where it checks
+    checking()
+    store("timing", marker_files(), "a record of every command")
+    store("timing_deck", deck_files(), "a block of every command")
 
 
 if __name__ == "__main__":

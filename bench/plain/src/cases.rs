@@ -32,15 +32,26 @@ pub fn marker(mut input: &[u8]) -> String {
         let places = take_number(&mut input, 4) as usize;
         let record = take(&mut input, length);
         let mut starts = vec![u32::MAX; places];
-        let Marked { number, fault, place, count } = mark(record, &mut starts);
-        assert!(starts[count..].iter().all(|start| *start == u32::MAX), "the rest is untouched");
-        let _ = write!(said, "no {number} fault {fault} place {place} count {count} turns");
-        for start in &starts[..count] {
-            let _ = write!(said, " {start}");
-        }
-        said += "\n";
+        let marked = mark(record, &mut starts);
+        assert!(starts[marked.count..].iter().all(|start| *start == u32::MAX), "the rest is untouched");
+        let Marked { number, fault, place, count } = marked;
+        let _ = writeln!(said, "{number} {fault} {place} {count}");
+        show_text(&mut said, &marked, &starts[..count]);
     }
     said
+}
+
+/// What the program `mark` prints.
+fn show_text(said: &mut String, marked: &Marked, starts: &[u32]) {
+    let Marked { number, fault, place, count } = marked;
+    let _ = match (number, fault) {
+        (0, 0) => writeln!(said, "sound {count}"),
+        (0, _) => writeln!(said, "fault {fault} at {place}"),
+        _ => writeln!(said, "refused {number}"),
+    };
+    for start in starts {
+        let _ = writeln!(said, "turn {start}");
+    }
 }
 
 /// A call is a letter, the size of the output to lend, a time, a length and that many argument bytes.

@@ -26,7 +26,7 @@ fn ended() -> bool {
 
 // Of a record that is longer than the buffer 65,536 bytes are read: too many, so it is refused all the same. The output has room
 // for the longest transcript, that of 5,461 entries.
-fn main() {
+fn run() {
     let mut buf = io::large_buffer();
     let n = io::read_full(STDIN_FILENO, &mut buf);
     if n < 65536 && !ended() {
@@ -38,4 +38,16 @@ fn main() {
     if !io::write_all(STDOUT_FILENO, &out[..len]) {
         io::write_all(STDERR_FILENO, b"answer: not all could be written\n");
     }
+}
+
+// A name given as an argument would be passed over, and an empty standard input read in its place.
+fn main() {
+    if os::arg_count() > 1 {
+        io::write_all(
+            STDERR_FILENO,
+            b"answer: takes no argument, use: answer < RECORD\n",
+        );
+        return;
+    }
+    run();
 }

@@ -31,6 +31,15 @@ pub whole-reads : (block : List ℕ) → Whole block → readNo block ≡ 0
 unfolding readNo
 whole-reads block w = simp (le-ltb (length block) 3 (omega arith), eq-eqb _ _ (w .sized), eq-eqb _ _ (w .summed))
 
+-- a block of the right length that does not read has the number 8 SUM
+pub full-number : (block : List ℕ) → length block ≡ countOf (getD block 0 0) + 3 → (readNo block ≡ 0 → ⊥) → readNo block ≡ 8
+unfolding readNo
+full-number block l n = by (ℕ-discrete (checksum (take (length block - 1) block)) (getD block (length block - 1) 0))
+  where
+    by : Dec (checksum (take (length block - 1) block) ≡ getD block (length block - 1) 0) → readNo block ≡ 8
+    by (yes s) = absurd (n (whole-reads block (record { sized = l; summed = s })))
+    by (no s) = simp (le-ltb (length block) 3 (omega arith), eq-eqb _ _ l, ne-eqb _ _ s)
+
 -- the number stands in the fields, whatever it is
 pub fields-number : (block : List ℕ) → readFields block .no ≡ readNo block
 unfolding readFields

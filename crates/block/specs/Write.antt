@@ -24,7 +24,7 @@ unfoldable pub written : ℕ → List ℕ → List ℕ → Written
 written group bytes out =
     record { no = writeNo group bytes out; len = cond (eqb (writeNo group bytes out) 0) (length bytes + 3) 0 }
 
--- what the output holds afterwards: the block at its front, the rest untouched; a refusal "changes nothing"
+-- what the output holds afterwards: the block at its front, the rest untouched; refusals "change nothing"
 unfoldable pub writtenOut : ℕ → ℕ → List ℕ → List ℕ → List ℕ
 writtenOut group command bytes out =
     cond (eqb (writeNo group bytes out) 0) (blockOf group command bytes ++ drop (length bytes + 3) out) out

@@ -46,7 +46,9 @@ struct Command {
     kind: ReplyKind,
 }
 
-const COMMANDS: [Command; 36] = [
+const ROWS: usize = 36;
+
+const COMMANDS: [Command; ROWS] = [
     Command {
         first: 0x00,
         command: 0x0C,
@@ -230,7 +232,7 @@ const COMMANDS: [Command; 36] = [
 ];
 
 // The one function that names the table: the prover reads the whole of it in each that does.
-fn rows() -> [Command; 36]
+fn rows() -> [Command; ROWS]
     ensures { λ r. ⌜ r ≡ commands ⌝ }
 {
     COMMANDS
@@ -243,6 +245,10 @@ fn code(first: u8, command: u8) -> u32
     first as u32 * 256 + command as u32
 }
 
+const THIRD: usize = ROWS / 3;
+
+const TWO_THIRDS: usize = THIRD * 2;
+
 // The table is fetched once: the compiled code builds it wherever it is named. Loops of twelve rows are unrolled, so that it need not
 // be built at all: each row is known, and the search is one switch on the code.
 pub fn find(first: u8, command: u8) -> ReplyKind
@@ -251,7 +257,7 @@ pub fn find(first: u8, command: u8) -> ReplyKind
     let wanted = code(first, command);
     let table = rows();
     let mut i: usize = 0;
-    while i < 12 {
+    while i < THIRD {
         let c = table[i];
         if code(c.first, c.command) == wanted {
             let kind = c.kind;
@@ -259,7 +265,7 @@ pub fn find(first: u8, command: u8) -> ReplyKind
         }
         i += 1;
     }
-    while i < 24 {
+    while i < TWO_THIRDS {
         let c = table[i];
         if code(c.first, c.command) == wanted {
             let kind = c.kind;
@@ -267,7 +273,7 @@ pub fn find(first: u8, command: u8) -> ReplyKind
         }
         i += 1;
     }
-    while i < 36 {
+    while i < ROWS {
         let c = table[i];
         if code(c.first, c.command) == wanted {
             let kind = c.kind;

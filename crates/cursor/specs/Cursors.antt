@@ -5,8 +5,8 @@ use mathlib.Core.Bool.{cond}
 use mathlib.Core.List.{List}
 use denote.Ref.{RefT, now}
 use lib.Dec.{ltb}
-use lib.ListN.{length, getD}
-use Rattle.record.specs.Bytes.{entriesOf, noEntry}
+use lib.ListN.{length}
+use Rattle.record.specs.Bytes.{entriesOf, readAt}
 use Rattle.cursor.specs.declared.Cursor.{Cursor}
 use Rattle.cursor.specs.declared.Taken.{Taken}
 
@@ -22,6 +22,6 @@ standing bytes i = record { bytes = bytes; place = i }
 abbrev pub onward : Cursor → Cursor
 onward c = standing (c .bytes) (nextPlace (now (c .bytes)) (c .place))
 
--- the entry at i, and the place after it
+-- what is read at i, and the place after it
 abbrev pub takenAt : List ℕ → ℕ → Taken
-takenAt bytes i = record { entry = getD (entriesOf bytes) i noEntry; place = nextPlace bytes i }
+takenAt bytes i = record { no = readAt bytes i .no; entry = readAt bytes i .entry; place = nextPlace bytes i }

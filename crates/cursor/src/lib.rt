@@ -1,8 +1,8 @@
 // A cursor on a line record: it knows where it stands.
 use record::Entry;
+use record::Fetched;
 ghost use mathlib.Core.Path.{_≡_};
-ghost use lib.ListN.{getD};
-ghost use Rattle.record.specs.Bytes.{entriesOf, noEntry};
+ghost use Rattle.record.specs.Bytes.{readAt};
 ghost use Rattle.cursor.specs.Cursors.{nextPlace, standing, onward, takenAt};
 
 // The record, and the number of an entry.
@@ -11,8 +11,9 @@ struct Cursor<'a> {
     place: usize,
 }
 
-// An entry, and the place after it.
+// An entry and the place after it, or the number that says that there is none.
 pub struct Taken {
+    pub no: u8,
     pub entry: Entry,
     pub place: usize,
 }
@@ -34,9 +35,9 @@ fn open<'a>(bytes: &'a [u8], place: usize) -> Cursor<'a>
     Cursor { bytes, place }
 }
 
-// The entry where the cursor stands, one of zeros at the end.
-fn here<'a>(c: Cursor<'a>) -> Entry
-    ensures { λ r. ⌜ r ≡ getD (entriesOf (now (c .entry .bytes))) (c .entry .place) noEntry ⌝ }
+// The entry where the cursor stands; 10 and zeros at the end.
+fn here<'a>(c: Cursor<'a>) -> Fetched
+    ensures { λ r. ⌜ r ≡ readAt (now (c .entry .bytes)) (c .entry .place) ⌝ }
 {
     record::read(c.bytes, c.place)
 }
@@ -52,15 +53,17 @@ fn next<'a>(c: Cursor<'a>) -> Cursor<'a>
     }
 }
 
-// The entry at this place, read through a cursor, and where the cursor stands then. Whoever calls it needs no walk.
+// The entry at this place, read through a cursor, and where the cursor stands then; 10, zeros and the same place at the end.
+// Whoever calls it needs no walk.
 pub fn take(bytes: &[u8], place: usize) -> Taken
     ensures { λ r. ⌜ r ≡ takenAt (now (bytes .entry)) place ⌝ }
 {
     let c = open(bytes, place);
-    let entry = here(c);
+    let read = here(c);
     let after = next(c);
     Taken {
-        entry,
+        no: read.no,
+        entry: read.entry,
         place: after.place,
     }
 }

@@ -130,18 +130,15 @@ module _ (d : Held) (t b : ℕ) where
     unfolding joins
     joins-taken z x g = rw (← f, eq-eqb n 0 z) (sym g)
 
-  pub joining-is : (x : Bool) → joins d t b ≡ x
-      → joining d t b ≡ cond x (record { taken = true; deck = withByte d t b }) (record { taken = false; deck = d })
+  -- by its parts
+  pub joining-is : (n : ℕ) (x : Bool) → n ≡ refusal 18 (d .clock) t 0 0 → joins d t b ≡ x
+      → joining d t b ≡ record { no = n; taken = x; deck = cond x (withByte d t b) d }
   unfolding joining
-  joining-is x p = rw p
+  joining-is n x f p = rw (f, p)
 
   -- it says by `taken` whether it joins
   pub joining-taken : joining d t b .taken ≡ joins d t b
-  joining-taken = go (joins d t b) refl
-    where
-      go : (x : Bool) → joins d t b ≡ x → joining d t b .taken ≡ x
-      go true p = ap (λ (j : Joined). j .taken) (joining-is true p)
-      go false p = ap (λ (j : Joined). j .taken) (joining-is false p)
+  joining-taken = ap (λ (j : Joined). j .taken) (joining-is _ (joins d t b) refl refl)
 
   module _ (j : joins d t b ≡ true) where
     pub joins-grows : grows (view d) t b ≡ true
@@ -153,7 +150,7 @@ module _ (d : Held) (t b : ℕ) where
     joins-range = allowed 18 (d .clock) t 0 0 (eqb-true _ _ (both-true (eqb (refusal 18 (d .clock) t 0 0) 0) _ j .0))
 
     pub joins-deck : joining d t b .deck ≡ withByte d t b
-    joins-deck = ap (λ (k : Joined). k .deck) (joining-is true j)
+    joins-deck = ap (λ (k : Joined). k .deck) (joining-is _ true refl j)
 
     pub joins-answers : b < 256 → answers (view d) (byte t b 0) ≡ silently (view (joining d t b .deck))
     joins-answers h = rw joins-deck (grows-answers d t b joins-grows h)
@@ -163,4 +160,4 @@ module _ (d : Held) (t b : ℕ) where
     where
       go : (x : Bool) → joins d t b ≡ x → Made (joining d t b .deck)
       go true p = rw (joins-deck p) (grows-made d t b (joins-grows p) h)
-      go false p = rw (joining-is false p) m
+      go false p = rw (joining-is _ false refl p) m

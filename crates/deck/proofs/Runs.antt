@@ -1,5 +1,5 @@
--- Runs of the code's calls: they are runs of the deck of the definitions, so the laws of quiet and of looks hold for the code's
--- own decks, in every field.
+-- Runs of the code's calls: they are runs of the deck of the definitions, so the laws of lists of events hold for the code's own
+-- decks and replies, those of quiet and of looks in every field.
 use Prim.Native.Nat.{ℕ, _≤_}
 use mathlib.Core.Bool.{Bool, true, false}
 use mathlib.Core.List.{List, [], _∷_, _++_, append-nil}
@@ -12,16 +12,36 @@ use lib.Seq.{take-append-seam}
 use Rattle.deck.specs.declared.Answer.{Answer as Returned}
 use Rattle.deck.specs.declared.Deck.{Deck as Held}
 use Rattle.deck.specs.Line.{Event, look, timeOf, Deck, Reply, after, says, answers, run, said}
-use Rattle.deck.specs.Events.{Alike, ended, same, dropped, Ordered, withoutLooks, Few}
-use Rattle.deck.specs.Events.{none as no-reply, one as one-reply, two as two-replies}
+use Rattle.deck.specs.Events.{Gives, Alike, ended, same, dropped, unheard, Ordered, withoutLooks, Few}
+use Rattle.deck.specs.Events.{none as no-reply, one as one-reply, late as late-reply, two as two-replies}
 use Rattle.deck.specs.Calls.{Call, number, view, Made, seen, takenCall, replyBytes, told, Answers}
-use Rattle.deck.specs.Runs.{Obtained, obtainedAt, obtained, Called, none, more}
+use Rattle.deck.specs.Runs.{Obtained, known, obtainedAt, obtained, Called, none, more}
 use Rattle.deck.proofs.Joining.{allowed}
 use Rattle.deck.proofs.Looks.{looks-alike}
 use Rattle.deck.proofs.Made.{made-equal}
 use Rattle.deck.proofs.Numbers.{call-is}
 use Rattle.deck.proofs.Quiet.{quiet-alike}
 use Rattle.deck.proofs.Replies.{few-replies}
+
+-- ---- replies
+
+known-append : (rs qs : List Reply) → known (rs ++ qs) ≡ known rs ++ known qs
+known-append [] qs = refl
+known-append (r ∷ rs) qs = ap (λ (l : List Obtained). record { bytes = r .bytes; due = r .due } ∷ l) (known-append rs qs)
+
+-- a reply that has bytes is found at the front of the output
+found : (r : Reply) (rest : List ℕ) → 3 ≤ length (r .bytes)
+    → obtainedAt (told (r ∷ [])) (r .bytes ++ rest) ≡ known (r ∷ [])
+found r rest h = rw (ne-eqb (length (r .bytes)) 0 (λ p. omega arith), take-append-seam (r .bytes) rest)
+
+-- all of them, from what the call returns and the output
+handed-out : (d : Deck) (e : Event) (rs : List Reply) (rest : List ℕ) → Few d e rs
+    → obtainedAt (told rs) (replyBytes rs ++ rest) ++ obtainedAt (told (drop 1 rs)) (drop (told rs .len) (replyBytes rs ++ rest))
+    ≡ known rs
+handed-out d e rs rest no-reply = refl
+handed-out d e rs rest (one-reply r p h k) = rw (append-nil (r .bytes)) (ap (λ (l : List Obtained). l ++ []) (found r rest h))
+handed-out d e rs rest (late-reply h) = refl
+handed-out d e rs rest (two-replies h f) = refl
 
 -- ---- a call that is taken
 
@@ -36,39 +56,16 @@ module _ {d : Held} {e : Event} {entry exit : List ℕ} {r : Returned} (a : Answ
   taken-is : seen r exit ≡ takenCall (timeOf e) (answers (view d) e) entry
   taken-is = a .seen-is ∙ call-is (d .clock) (view d) e entry true (eq-eqb _ _ zero-is)
 
--- the replies as a caller has them
-abbrev known : List Reply → List Obtained
-known [] = []
-known (r ∷ rs) = record { bytes = r .bytes; due = r .due } ∷ known rs
-
-known-append : (rs qs : List Reply) → known (rs ++ qs) ≡ known rs ++ known qs
-known-append [] qs = refl
-known-append (r ∷ rs) qs = ap (λ (l : List Obtained). record { bytes = r .bytes; due = r .due } ∷ l) (known-append rs qs)
-
--- a reply that has bytes is found at the front of the output
-found : (r : Reply) (rest : List ℕ) → 3 ≤ length (r .bytes)
-    → obtainedAt (told (r ∷ [])) (r .bytes ++ rest) ≡ known (r ∷ [])
-found r rest h = rw (ne-eqb (length (r .bytes)) 0 (λ p. omega arith), take-append-seam (r .bytes) rest)
-
--- what a call hands out is what the deck says
-handed-out : (d : Deck) (e : Event) (rs : List Reply) (rest : List ℕ) → Few d e rs
-    → obtainedAt (told rs) (replyBytes rs ++ rest) ++ obtainedAt (told (drop 1 rs)) (drop (told rs .len) (replyBytes rs ++ rest))
-    ≡ known rs
-handed-out d e rs rest no-reply = refl
-handed-out d e rs rest (one-reply r h) = rw (append-nil (r .bytes)) (ap (λ (l : List Obtained). l ++ []) (found r rest h))
-handed-out d e rs rest (two-replies h) = refl
+  -- what it hands out is what the deck says
+  obtains : obtained r exit ≡ known (says (view d) e)
+  obtains =
+      ap (λ (k : Call). obtainedAt (k .first) (k .out) ++ obtainedAt (k .second) (drop (k .first .len) (k .out))) taken-is
+      ∙ handed-out (view d) e (says (view d) e) _ (few-replies (view d) e)
 
 -- ---- runs
 
-module _ {d : Held} {e : Event} {entry exit : List ℕ} {r : Returned} (a : Answers d e entry r exit) (z : r .no ≡ 0) where
-  obtains : obtained r exit ≡ known (says (view d) e)
-  obtains =
-      let t = taken-is a z in
-      ap (λ (k : Call). obtainedAt (k .first) (k .out) ++ obtainedAt (k .second) (drop (k .first .len) (k .out))) t
-      ∙ handed-out (view d) e (says (view d) e) _ (few-replies (view d) e)
-
 -- what is obtained is what the deck of the definitions says, and the deck is the one after the events
-called-said : {d end : Held} {es : List Event} {gs : List Obtained} → Called d es gs end → gs ≡ known (said (view d) es)
+pub called-said : {d end : Held} {es : List Event} {gs : List Obtained} → Called d es gs end → gs ≡ known (said (view d) es)
 unfolding said
 called-said none = refl
 called-said (more {d} {e = e} {es = es} entry exit r a z c) =
@@ -76,10 +73,15 @@ called-said (more {d} {e = e} {es = es} entry exit r a z c) =
     ap₂ (λ (x y : List Obtained). x ++ y) (obtains a z) (called-said c ∙ ap (λ (m : Deck). known (said m es)) t)
     ∙ sym (known-append (says (view d) e) (said (after (view d) e) es))
 
-called-run : {d end : Held} {es : List Event} {gs : List Obtained} → Called d es gs end → view end ≡ run (view d) es
+pub called-run : {d end : Held} {es : List Event} {gs : List Obtained} → Called d es gs end → view end ≡ run (view d) es
 unfolding run
 called-run none = refl
 called-run (more {es = es} entry exit r a z c) = called-run c ∙ ap (λ (m : Deck). run m es) (ap (λ (k : Call). k .deck) (taken-is a z))
+
+-- so each law that says what events give says what calls give: the replies, with their due times, and the deck
+pub called-gives : {d end : Held} {es : List Event} {gs : List Obtained} {replies : List Reply} {last : Deck} → Called d es gs end
+    → Gives (view d) es replies last → (gs ≡ known replies) × (view end ≡ last)
+called-gives c g = (called-said c ∙ ap known (g .0), called-run c ∙ g .1)
 
 -- a deck that events made, after calls, is one
 pub called-made : {d end : Held} {es : List Event} {gs : List Obtained} → Called d es gs end → Made d → Made end
@@ -120,8 +122,10 @@ alike-times : {d : Deck} {es fs : List Event} (t : ℕ) → Alike d es fs → la
 alike-times t ended = refl
 alike-times t (same {e = e} x) = alike-times (timeOf e) x
 alike-times t (dropped {t = u} q x) = alike-times u x
+alike-times t (unheard {t = u} q x) = alike-times u x
 
--- "Two runs that differ only in the content of bytes that fall in quiet give equal replies and equal decks."
+-- "Two runs that differ only in the content of bytes that fall in quiet give equal replies and equal decks." So do two that differ
+-- in looks that stand in the place of such bytes.
 pub quiet-equal : {d x y : Held} {es fs : List Event} {gs hs : List Obtained} → Made d → Called d es gs x → Called d fs hs y
     → Alike (view d) es fs → (gs ≡ hs) × (x ≡ y)
 quiet-equal {d} m c k a = agree m c k (quiet-alike a) (alike-times (d .clock) a)

@@ -8,7 +8,7 @@ use Rattle.settings.specs.declared.Settings.{Settings}
 use Rattle.settings.specs.Settings.{loaded, withPosition}
 use Rattle.execute.specs.Replies.{nak, timeOut, opensQuiet}
 use Rattle.deck.specs.Line.{Event, byte, look, position, cassette, timeOf}
-use Rattle.deck.specs.Line.{Deck, Reply, looked, size, inQuiet, after, run, said}
+use Rattle.deck.specs.Line.{Deck, Reply, timedOut, looked, size, inQuiet, after, run, said}
 
 -- to these events the deck says these replies, and after them it is the deck `end`
 abbrev pub Gives : Deck → List Event → List Reply → Deck → Type 0
@@ -62,12 +62,15 @@ pub data Begun : Deck → List ℕ → List Event → ℕ → Type 0 where
 -- ---- bytes in quiet
 
 -- "Two runs that differ only in the content of bytes that fall in quiet": a byte's content and flags may differ where the
--- deck, as the events before have made it, is in quiet after the time-out
+-- deck, as the events before have made it, is in quiet after the time-out; or a look stands in its place: "Bytes in quiet act
+-- only as looks at the clock."
 pub data Alike : Deck → List Event → List Event → Type 0 where
   ended : {d : Deck} → Alike d [] []
   same : {d : Deck} {e : Event} {es fs : List Event} → Alike (after d e) es fs → Alike d (e ∷ es) (e ∷ fs)
   dropped : {d : Deck} {t b c flags marks : ℕ} {es fs : List Event} → inQuiet (looked d t .deck) t ≡ true
       → Alike (after d (byte t b flags)) es fs → Alike d (byte t b flags ∷ es) (byte t c marks ∷ fs)
+  unheard : {d : Deck} {t b flags : ℕ} {es fs : List Event} → inQuiet (looked d t .deck) t ≡ true
+      → Alike (after d (byte t b flags)) es fs → Alike d (byte t b flags ∷ es) (look t ∷ fs)
 
 -- ---- looks
 
@@ -86,9 +89,11 @@ withoutLooks (cassette t ∷ es) = cassette t ∷ withoutLooks es
 
 -- ---- the replies to one event
 
--- nothing, one reply (the shortest blocks have 3 bytes), or two NAKs: the time-out's, and then that for the flagged byte
+-- nothing; one reply, due at the event's time and as long as a block; or the time-out's NAK, due at last + 10,001, and then
+-- that for a flagged byte, or none
 pub data Few (d : Deck) : Event → List Reply → Type 0 where
   none : {e : Event} → Few d e []
-  one : {e : Event} (r : Reply) → 3 ≤ length (r .bytes) → Few d e (r ∷ [])
-  two : {t b flags : ℕ} → (flags ≡ 0 → ⊥)
+  one : {e : Event} (r : Reply) → r .due ≡ timeOf e → 3 ≤ length (r .bytes) → length (r .bytes) ≤ 18 → Few d e (r ∷ [])
+  late : {e : Event} → timedOut d (timeOf e) ≡ true → Few d e (nakAt timeOut (d .last + 10001) ∷ [])
+  two : {t b flags : ℕ} → timedOut d t ≡ true → (flags ≡ 0 → ⊥)
       → Few d (byte t b flags) (nakAt timeOut (d .last + 10001) ∷ nakAt flags t ∷ [])

@@ -31,6 +31,11 @@ withByte d t b =
       settings = d .settings;
     }
 
--- the contract of `join`
+-- the contract of `join`: the number of the call, and whether the byte is taken; a deck that takes nothing is as it was
 unfoldable pub joining : Held → ℕ → ℕ → Joined
-joining d t b = cond (joins d t b) (record { taken = true; deck = withByte d t b }) (record { taken = false; deck = d })
+joining d t b =
+    record {
+      no = refusal 18 (d .clock) t 0 0;
+      taken = joins d t b;
+      deck = cond (joins d t b) (withByte d t b) d;
+    }

@@ -8,13 +8,18 @@ use lib.ListN.{take, drop}
 use Rattle.deck.specs.declared.Deck.{Deck as Held}
 use Rattle.deck.specs.declared.Sent.{Sent}
 use Rattle.deck.specs.declared.Answer.{Answer as Returned}
-use Rattle.deck.specs.Line.{Event}
+use Rattle.deck.specs.Line.{Event, Reply}
 use Rattle.deck.specs.Calls.{Answers}
 
 -- a reply as a caller has it: its bytes and its due time
 pub record Obtained : Type 0 where
   pub bytes : List ℕ
   pub due : ℕ
+
+-- those that the deck of the definitions says; whether one opens a quiet is not told
+abbrev pub known : List Reply → List Obtained
+known [] = []
+known (r ∷ rs) = record { bytes = r .bytes; due = r .due } ∷ known rs
 
 -- from the front of the output; of length 0 there is none
 abbrev pub obtainedAt : Sent → List ℕ → List Obtained

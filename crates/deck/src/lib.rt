@@ -2,6 +2,7 @@
 use packed::Packed;
 use settings::Settings;
 ghost use mathlib.Core.Path.{_≡_};
+ghost use mathlib.Core.Bool.{false};
 ghost use Prim.Native.Nat.{ℕ};
 ghost use Rattle.deck.specs.Line.{byte, look, position, cassette};
 ghost use Rattle.deck.specs.Calls.{Answers, view, newDeck};
@@ -37,8 +38,9 @@ pub struct Answer {
     pub second: Sent,
 }
 
-// What `join` did: whether the byte was taken, and the deck.
+// What `join` did: the number, whether the byte was taken, and the deck.
 pub struct Joined {
+    pub no: u8,
     pub taken: bool,
     pub deck: Deck,
 }
@@ -88,22 +90,28 @@ impl Deck {
         self.held < line::size(block.at(0)) - 1
     }
 
+    // A byte that does not join.
+    fn unjoined(self, no: u8) -> Joined
+        ensures { λ r. ⌜ r ≡ record { no = no; taken = false; deck = self } ⌝ }
+    {
+        Joined {
+            no: no,
+            taken: false,
+            deck: self,
+        }
+    }
+
     // A clean byte that goes into the open block and does nothing else: it is heard, finds no time-out and does not fill the block.
-    // Any other is not taken, and the deck is then as it was.
+    // Any other is not taken, and the deck is then as it was; the number says whether the call itself was refused.
     pub fn join(mut self, time: u64, content: u8) -> Joined
         ensures { λ r. ⌜ r ≡ joining self time content ⌝ }
     {
-        if number::refusal(18, self.clock, time, 0, 0) != 0 {
-            return Joined {
-                taken: false,
-                deck: self,
-            };
+        let no = number::refusal(18, self.clock, time, 0, 0);
+        if no != 0 {
+            return self.unjoined(no);
         }
         if !self.grows(time) {
-            return Joined {
-                taken: false,
-                deck: self,
-            };
+            return self.unjoined(0);
         }
         let block = self.block;
         self.block = block.put(self.held, content);
@@ -111,6 +119,7 @@ impl Deck {
         self.clock = time;
         self.last = time;
         Joined {
+            no: 0,
             taken: true,
             deck: self,
         }

@@ -25,6 +25,10 @@ shifted false p = frameOn p .position
 abbrev pub given : List ℕ → ℕ
 given time = readTime time .position
 
+-- A public call takes any data. What cannot be honoured, a cue or a preset whose data are no time, changes nothing.
+abbrev pub ifTime : List ℕ → Settings → Settings → Settings
+ifTime bytes after s = cond (eqb (readTime bytes .no) 0) after s
+
 -- another mode and speed; "Cue-done goes off at every motion command but cue, and at eject."
 abbrev pub moving : Mode → ℤ → Settings → Settings
 moving m v s = withCued false (withMotion m v s)
@@ -37,7 +41,7 @@ transport (Vary m way) s bytes = moving m (signed way (speedOf (getD bytes 0 0))
 -- "one frame on, one back; mode jog, speed 0"
 transport (Step way) s bytes = withPosition (shifted way (s .position)) (moving Jog (pos 0) s)
 -- "cue: the position becomes the time given; mode stop; cue-done on"; "Stop has speed 0."
-transport Cue s bytes = withPosition (given bytes) (withCued true (withMotion Stop (pos 0) s))
+transport Cue s bytes = ifTime bytes (withPosition (given bytes) (withCued true (withMotion Stop (pos 0) s))) s
 -- "eject: cassette out, no mode, speed 0"
 transport Eject s bytes = withCassette false (moving NoMode (pos 0) s)
 
@@ -49,7 +53,7 @@ perform (Transport m) s bytes = cond (s .cassette) (transport m s bytes) s
 -- "In, Out become the position and their flag goes on"
 perform (Take w) s bytes = withPoint w (point (s .position) true) s
 -- "the same from a time given"
-perform (Preset w) s bytes = withPoint w (point (given bytes) true) s
+perform (Preset w) s bytes = ifTime bytes (withPoint w (point (given bytes) true) s) s
 -- "one frame on, back"
 perform (Shift w way) s bytes = withPoint w (point (shifted way (pointOf w s .at)) (pointOf w s .on)) s
 -- "flag off; .. on"

@@ -50,10 +50,13 @@ fn move_tape(motion: Motion, s: Settings, data: &[u8]) -> Settings
             stepped
         }
         Motion::Cue => {
-            let given = timecode::position(data);
+            let target = timecode::position(data);
+            if target.no != 0 {
+                return s;
+            }
             let mut cued = s.with_motion(Mode::Stop, 0);
             cued.cued = true;
-            cued.position = given.position;
+            cued.position = target.position;
             cued
         }
         Motion::Eject => {
@@ -88,6 +91,9 @@ pub fn perform(effect: Effect, mut s: Settings, data: &[u8]) -> Settings
         }
         Effect::Preset(which) => {
             let given = timecode::position(data);
+            if given.no != 0 {
+                return s;
+            }
             s.with_point(
                 which,
                 Point {

@@ -1,4 +1,4 @@
--- Every reply is a block: at least 3 bytes, each a byte, and it reads.
+-- Every reply is a block: 3 to 18 bytes, each a byte, and it reads.
 use mathlib.Core.Path.{_≡_, refl, sym, ap, _∙_, subst}
 use mathlib.Core.Bool.{Bool, true, false, cond}
 use mathlib.Core.List.{List, [], _∷_, _++_}
@@ -41,6 +41,10 @@ pub record IsReply (bytes : List ℕ) : Type 0 where
 module _ (bytes : List ℕ) (r : IsReply bytes) where
   pub is-long : 3 ≤ length bytes
   is-long = subst (λ (x : List ℕ). 3 ≤ length x) (sym (r .is)) (omega (arith, length-block (r .group) (r .command) (r .content)))
+
+  pub is-short : length bytes ≤ 18
+  is-short =
+      subst (λ (x : List ℕ). length x ≤ 18) (sym (r .is)) (omega (arith, length-block (r .group) (r .command) (r .content), r .few))
 
   pub is-read : readNo bytes ≡ 0
   is-read = ap readNo (r .is) ∙ block-number (r .group) (r .command) (r .content) (r .few)
@@ -138,10 +142,13 @@ execute-replies s block =
     either (eqb (readNo block) 0) (carry k s (readData block)) (refused s badChecksum)
     (λ _. carry-replies k s (readData block)) (a-nak s badChecksum (omega arith))
 
--- "a reply of at least 3 bytes that reads as a block", whatever the settings
+-- the reply to a full block, whatever the settings
 module _ (s : Settings) (block : List ℕ) where
   pub reply-long : 3 ≤ length (execute s block .bytes)
   reply-long = is-long (execute s block .bytes) (execute-replies s block)
+
+  pub reply-short : length (execute s block .bytes) ≤ 18
+  reply-short = is-short (execute s block .bytes) (execute-replies s block)
 
   pub reply-reads : readNo (execute s block .bytes) ≡ 0
   reply-reads = is-read (execute s block .bytes) (execute-replies s block)

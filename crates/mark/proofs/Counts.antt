@@ -9,7 +9,7 @@ use Rattle.record.proofs.Bytes.{length-entries}
 use Rattle.marker.specs.declared.Marked.{Marked}
 use Rattle.marker.specs.Marks.{Marks}
 use Rattle.marker.proofs.Taken.{fitting}
-use Rattle.report.proofs.Tests.{dec-case}
+use Rattle.text.proofs.Tests.{dec-case}
 
 -- the marker finds no more turns than the table has places
 pub counted : {bytes before after : List ℕ} {r : Marked} → Marks bytes before r after → r .count ≤ length before

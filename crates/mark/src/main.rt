@@ -35,7 +35,7 @@ fn ended() -> bool {
 }
 
 // Of a record that is longer than the buffer 65,536 bytes are read: too many, so it is refused all the same.
-fn main() {
+fn run() {
     let mut buf = io::large_buffer();
     let n = io::read_full(STDIN_FILENO, &mut buf);
     if n < 65536 && !ended() {
@@ -43,4 +43,16 @@ fn main() {
         return;
     }
     print(&buf[..n]);
+}
+
+// A name given as an argument would be passed over, and an empty standard input marked in its place.
+fn main() {
+    if os::arg_count() > 1 {
+        io::write_all(
+            STDERR_FILENO,
+            b"mark: takes no argument, use: mark < RECORD\n",
+        );
+        return;
+    }
+    run();
 }

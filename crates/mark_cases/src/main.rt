@@ -1,4 +1,4 @@
-// Hands the records that standard input has to the marker, and prints what it says of each.
+// Hands the records that standard input has to the marker, and prints what it says of each: its numbers, and the text of them.
 //
 // A case of the input is the record's length and the number of table places to lend, four bytes each, lowest first, and then the record.
 // tests/mark_cases.py makes the cases, and two models from document 01 alone the lines to expect.

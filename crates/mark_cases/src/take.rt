@@ -17,9 +17,32 @@ pub(super) fn four(bytes: &[u8]) -> u32 {
         | wide(byte(bytes, 3)) << 24
 }
 
-// The place at `at`, and 0 past the end.
-pub(super) fn place(table: &[u32], at: usize) -> u32 {
-    if at < table.len() { table[at] } else { 0 }
+// The first `count` bytes, or all where there are fewer.
+pub(super) fn first(bytes: &[u8], count: usize) -> &[u8] {
+    if count < bytes.len() {
+        &bytes[..count]
+    } else {
+        bytes
+    }
+}
+
+// The first `count` places, or all where there are fewer.
+pub(super) fn first_places(table: &[u32], count: usize) -> &[u32] {
+    if count < table.len() {
+        &table[..count]
+    } else {
+        table
+    }
+}
+
+// What a text with these turn starts asks for, up to 6,000 of them.
+pub(super) fn room(starts: &[u32]) -> u32 {
+    let turns = starts.len();
+    if turns < 6000 {
+        64 + 16 * turns as u32
+    } else {
+        96064
+    }
 }
 
 // What stands behind the first `count` bytes.

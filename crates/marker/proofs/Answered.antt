@@ -1,21 +1,18 @@
 -- The deck's calls as the marker makes them: none is refused, and each brings one reply at most.
 use Prim.Native.Nat.{ℕ, _≤_, _<_, _^_}
 use mathlib.Core.Path.{_≡_, refl, ap, _∙_}
-use mathlib.Core.Bool.{Bool, true, false, cond}
+use mathlib.Core.Bool.{true}
 use mathlib.Core.List.{List, [], _∷_, _++_, append-nil}
-use mathlib.Core.Logic.{⊎-elim}
 use native.Mathlib.Omega.{arith}
 use borrow.Author.Tests.{eq-eqb, ne-eqb}
-use lib.Dec.{leb}
 use lib.ListN.{length, drop}
 use lib.Seq.{take-append-seam}
-use Rattle.execute.specs.Execute.{execute}
-use Rattle.execute.proofs.Replies.{reply-long}
 use Rattle.deck.specs.declared.Answer.{Answer as Returned}
-use Rattle.deck.specs.Line.{Event, byte, look, position, cassette, timeOf, Deck, Reply, Answer, silently, replied, taken}
-use Rattle.deck.specs.Line.{size, deck, looked, acted, answers}
+use Rattle.deck.specs.Line.{Event, look, timeOf, Deck, Reply, silently, looked, answers}
+use Rattle.deck.specs.Events.{Few, none, one, late, two}
 use Rattle.deck.specs.Calls.{number, told, replyBytes, Call, takenCall, view, seen, Answers}
-use Rattle.deck.proofs.Steps.{look-alone, look-cases, look-late, byte-cases, acted-byte, acted-other, answers-soon}
+use Rattle.deck.proofs.Late.{overdue}
+use Rattle.deck.proofs.Replies.{few-replies, late-looked}
 use Rattle.deck.proofs.Numbers.{call-is}
 use Rattle.record.specs.Machine.{Waiting, await}
 use Rattle.marker.specs.declared.Marker.{Marker}
@@ -29,41 +26,24 @@ Brief t [] = Unit
 Brief t (r ∷ []) = (0 < length (r .bytes)) × (r .due ≤ t)
 Brief t (r ∷ s ∷ rs) = ⊥
 
-brief-looked : (d : Deck) (t : ℕ) → Brief t (looked d t .replies)
-brief-looked d t =
-    ⊎-elim (λ p. rw p tt) (λ p. rw (look-late d t (p .0) (p .1)) (omega arith, omega (arith, p .1))) (look-cases d t)
-
+-- a look finds a time-out at most
 pub brief-look : (d : Deck) (t : ℕ) → Brief t (answers d (look t) .replies)
-brief-look d t = rw (look-alone d t) (brief-looked d t)
-
-brief-taken : (d : Deck) (block : List ℕ) (t : ℕ) → Brief t (taken d block t .replies)
-unfolding taken
-brief-taken d block t = go (leb (size block) (length block))
+brief-look d t = go (few-replies d (look t))
   where
-    full : Answer
-    full = replied d t (execute (d .settings) block)
+    go : {rs : List Reply} → Few d (look t) rs → Brief t rs
+    go none = tt
+    go (one r p h k) = (omega arith, omega (arith, p))
+    go (late h) = (omega arith, omega (arith, overdue d t h))
 
-    more : Answer
-    more = silently (deck block t (d .free) (d .settings))
-
-    go : (x : Bool) → Brief t (cond x full more .replies)
-    go true = (omega (arith, reply-long (d .settings) block), omega arith)
-    go false = tt
-
-brief-acted : (d : Deck) (e : Event) → Brief (timeOf e) (acted d e .replies)
-brief-acted d (byte t b flags) =
-    rw (acted-byte d t b flags)
-    (⊎-elim
-    (λ p. rw p tt)
-    (⊎-elim (λ p. rw p (brief-taken d (d .block ++ b ∷ []) t)) (λ p. rw (p .1) (omega arith, omega arith)))
-    (byte-cases d t b flags))
-brief-acted d (look t) = rw (acted-other d (look t) tt) tt
-brief-acted d (position t p) = rw (acted-other d (position t p) tt) tt
-brief-acted d (cassette t) = rw (acted-other d (cassette t) tt) tt
-
--- after a look at its time
+-- after a look at its time an event finds none
 pub brief-soon : (d : Deck) (e : Event) → looked d (timeOf e) ≡ silently d → Brief (timeOf e) (answers d e .replies)
-brief-soon d e p = rw (answers-soon d e p refl) (brief-acted d e)
+brief-soon d e p = go e p (few-replies d e)
+  where
+    go : (e : Event) → looked d (timeOf e) ≡ silently d → {rs : List Reply} → Few d e rs → Brief (timeOf e) rs
+    go e p none = tt
+    go e p (one r q h k) = (omega arith, omega (arith, q))
+    go e p (late h) = absurd (late-looked d (timeOf e) h p)
+    go e p (two {t} h f) = absurd (late-looked d t h p)
 
 told-due : (t : ℕ) (rs : List Reply) → Brief t rs → told rs .due ≤ t
 told-due t [] b = omega arith
@@ -96,4 +76,5 @@ module _ (m : Marker) (e : Event) (out exit : List ℕ) (q : Returned) (x : Answ
             h .1 ∙ ap (λ (k : Call). heard (k .first) (k .out) (awaited (m .waits))) seen-taken
             ∙ hears (timeOf e) (answers (view (m .deck)) e .replies) (awaited (m .waits)) out b;
         clock = rw (h .0) (ap (λ (k : Call). k .clock) seen-taken);
+        made = λ k. rw (h .0) (x .made k);
       }

@@ -16,13 +16,23 @@ use Rattle.record.specs.Machine.{State, Outcome, goes, stops, begin, resting, v
 use Rattle.record.proofs.Bytes.{length-entries, entries-from}
 use Rattle.marker.specs.declared.Marker.{Marker}
 use Rattle.marker.specs.declared.Stepped.{Stepped}
-use Rattle.marker.specs.Steps.{awaited, state, outcome, Steps}
+use Rattle.marker.specs.Steps.{awaited, state, newMarker, outcome, Steps}
 use Rattle.marker.specs.Marks.{Leads}
 
-pub begins-so : (bytes before : List ℕ) (m : Marker) → state 0 [] m ≡ begin → Leads bytes before before m 0 0
+-- the marker before the first entry is the automaton's first state
+pub new-begins : state 0 [] newMarker ≡ begin
+new-begins = refl
+
+pub begins-so : (bytes before : List ℕ) (m : Marker) → m ≡ newMarker → Leads bytes before before m 0 0
 unfolding judge
 begins-so bytes before m p =
-    record { within = omega arith; few = omega arith; size = refl; leads = ap (judgeFrom (entriesOf bytes)) p; rest = refl }
+    record {
+      within = omega arith;
+      few = omega arith;
+      size = refl;
+      leads = ap (judgeFrom (entriesOf bytes)) (ap (state 0 []) p ∙ new-begins);
+      rest = refl;
+    }
 
 -- from a table on, and from the one before it
 pub from-here : {bytes before table : List ℕ} {m : Marker} {count i : ℕ} → Leads bytes before table m count i

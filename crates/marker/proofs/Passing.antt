@@ -13,15 +13,16 @@ use Rattle.deck.specs.declared.Joined.{Joined}
 use Rattle.deck.specs.Line.{byte, Answer, silently, isOpen, looked, answers}
 use Rattle.deck.specs.Calls.{view}
 use Rattle.deck.specs.Joins.{joins, joining}
+use Rattle.deck.proofs.Made.{made-so}
 use Rattle.deck.proofs.Steps.{look-nothing}
-use Rattle.deck.proofs.Joining.{grows-looked, grows-heard, joining-taken, joins-grows, joins-range, joins-deck, joins-answers}
+use Rattle.deck.proofs.Joining.{grows-looked, grows-heard, joining-taken, joins-grows, joins-range, joins-deck, joins-answers, joining-made}
 use Rattle.record.specs.declared.Entry.{Entry}
 use Rattle.record.specs.Entries.{formed, isController}
 use Rattle.record.specs.Machine.{waiting, some, await}
 use Rattle.marker.specs.declared.Waits.{Waits}
 use Rattle.marker.specs.declared.Marker.{Marker}
 use Rattle.marker.specs.Steps.{awaited, Acts, Does, lateFault, Steps, Expected}
-use Rattle.marker.proofs.Forms.{fits-controller, fits-deck}
+use Rattle.record.proofs.Forms.{fits-controller, fits-deck}
 use Rattle.marker.proofs.Tests.{none-held, none-awaited, agrees}
 use Rattle.marker.proofs.Whole.{does, takes, gone}
 
@@ -52,6 +53,7 @@ module _ (m q : Marker) (e : Entry) (f : formed e ≡ true) (t : m .deck .clock 
         deck = sym (ap (λ (x : Answer). x .deck) s);
         waits = sym (ap (λ (x : Answer). await (x .replies) (awaited (m .waits))) s);
         clock = refl;
+        made = made-so (m .deck) (timed (e .time) m .deck) refl refl;
       }
 
   passes : lateFault (view (m .deck)) (awaited (m .waits)) e ≡ 0 → Does (timed (e .time) m) e q
@@ -96,6 +98,7 @@ module _ (m : Marker) (e : Entry) (c : e .flags ≡ 0) where
         deck = sym (ap (λ (z : Answer). z .deck) a);
         waits = sym (ap (λ (z : Answer). await (z .replies) (awaited (m .waits))) a);
         clock = ap (λ (z : Joined). z .deck .clock) p ∙ ap (λ (z : Held). z .clock) (joins-deck d (e .time) (e .content) x);
+        made = λ z. rw p (joining-made d (e .time) (e .content) s (made-so (timed (e .time) m .deck) d refl refl z));
       } in
       passes m q e (formed-byte k s (r .0)) (r .1) l (none-awaited (view d) (awaited (m .waits)) e n (λ z. omega arith))
       (does (timed (e .time) m) q e 0 k refl l acts)

@@ -38,6 +38,7 @@ module _ (m r : Marker) (e : Entry) where
             a .waits ∙ ap (λ (x : Answer). await (x .replies) (awaited (m .waits))) s
             ∙ ap (await (acted D (handed e) .replies)) (sym q ∙ ap (λ (x : ℕ). took x (e .time) (awaited (m .waits))) (sym p));
         clock = a .clock;
+        made = a .made;
       }
 
   -- a deck byte
@@ -51,6 +52,7 @@ module _ (m r : Marker) (e : Entry) where
         waits = q ∙ ap (λ (x : ℕ). took x (e .time) (awaited (m .waits))) (sym k)
             ∙ ap (λ (x : Answer). await (x .replies) (took (e .kind) (e .time) (awaited (m .waits)))) (sym s);
         clock = ap (λ (x : Held). x .clock) p ∙ t;
+        made = λ k. rw p k;
       }
 
 -- ---- the whole
@@ -78,7 +80,7 @@ module _ (m : Marker) (e : Entry) where
   unfolding faultOf tests lateFault
   later f t = rw (f, le-ltb (e .time) (m .deck .clock) t)
 
-  pub stopped : (r : Stepped) (f : ℕ) → (f ≡ 0 → ⊥) → fault ≡ f → (r .fault ≡ f) × (r .marker ≡ m) → Steps m e r
+  pub stopped : (r : Stepped) (f : ℕ) → (f ≡ 0 → ⊥) → fault ≡ f → (r .fault ≡ f) × (r .begins ≡ false) × (r .marker ≡ m) → Steps m e r
   unfolding step
   stopped r zero n p q = absurd (n refl)
   stopped r (suc f) n p q =
@@ -86,7 +88,8 @@ module _ (m : Marker) (e : Entry) where
         steps = λ taken starts.
             rw (ne-eqb (r .fault) 0 (λ z. omega (arith, q .0)), q .0)
             (sym (ap (λ (x : ℕ). outcomeOf x (state taken starts m) e) p));
-        same = λ _. q .1;
+        same = λ _. (q .1, q .2);
+        made = λ k. rw (q .2) k;
       }
 
   -- after the look
@@ -133,6 +136,7 @@ module _ (m : Marker) (e : Entry) where
               same-state taken starts
               ∙ sym (ap (λ (x : ℕ). outcomeOf x (state taken starts m) e) (late n l f t ∙ z));
           same = λ n. absurd (n refl);
+          made = λ k. o .made (l .made k);
         }
       where
         same-state : (taken : ℕ) (starts : List ℕ)

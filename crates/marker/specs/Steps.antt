@@ -5,10 +5,10 @@ use mathlib.Core.Bool.{true, false, cond, not, _&&_}
 use mathlib.Core.List.{List, [], _∷_, _++_}
 use lib.Dec.{eqb, ltb, leb}
 use lib.ListN.{take, drop, getD}
-use Rattle.packed.specs.Packed.{unpacked}
+use Rattle.packed.specs.Packed.{packed, unpacked}
 use Rattle.deck.specs.declared.Sent.{Sent}
 use Rattle.deck.specs.Line.{Deck, Answer, isOpen, acted}
-use Rattle.deck.specs.Calls.{view}
+use Rattle.deck.specs.Calls.{view, newDeck, Made}
 use Rattle.record.specs.declared.Entry.{Entry}
 use Rattle.record.specs.Entries.{handed, keep, isController, isDeck}
 use Rattle.record.specs.Machine.{Waiting, waiting, some, await, took, firstTrue, State, Outcome, goes, stops, step}
@@ -27,6 +27,10 @@ abbrev pub state : ℕ → List ℕ → Marker → State
 state taken starts m =
     record { deck = view (m .deck); waits = awaited (m .waits); taken = taken; time = m .deck .clock; starts = starts }
 
+-- before the first entry
+abbrev pub newMarker : Marker
+newMarker = record { deck = newDeck; waits = record { reply = packed []; from = 0; end = 0; latest = 0 } }
+
 -- ---- the parts of a step
 
 -- what is awaited after the reply that stands at the front of the output; one of no bytes is none
@@ -38,12 +42,14 @@ pub record Acts (m : Marker) (t : ℕ) (a : Answer) (r : Marker) : Type 0 where
   pub deck : view (r .deck) ≡ a .deck
   pub waits : awaited (r .waits) ≡ await (a .replies) (awaited (m .waits))
   pub clock : r .deck .clock ≡ t
+  pub made : Made (m .deck) → Made (r .deck)
 
 -- after the entry e, where the deck has been told its time
 pub record Does (m : Marker) (e : Entry) (r : Marker) : Type 0 where
   pub deck : view (r .deck) ≡ acted (view (m .deck)) (handed e) .deck
   pub waits : awaited (r .waits) ≡ await (acted (view (m .deck)) (handed e) .replies) (took (e .kind) (e .time) (awaited (m .waits)))
   pub clock : r .deck .clock ≡ e .time
+  pub made : Made (m .deck) → Made (r .deck)
 
 -- the tests of the automaton from the third on, where the deck has been told the entry's time
 unfoldable pub lateFault : Deck → Waiting → Entry → ℕ
@@ -63,10 +69,13 @@ outcome taken starts r =
     (goes (state (suc taken) (starts ++ keep (r .begins) taken []) (r .marker)))
     (stops (r .fault))
 
--- the automaton's, however many entries were taken and whatever starts were found
+-- the automaton's, however many entries were taken and whatever starts were found; with a fault nothing begins and the marker
+-- is the same; and a deck that events made stays one. Left free is where in `reply` the bytes still to come stand, and what
+-- else it holds.
 pub record Steps (m : Marker) (e : Entry) (r : Stepped) : Type 0 where
   pub steps : (taken : ℕ) (starts : List ℕ) → outcome taken starts r ≡ step (state taken starts m) e
-  pub same : (r .fault ≡ 0 → ⊥) → r .marker ≡ m
+  pub same : (r .fault ≡ 0 → ⊥) → (r .begins ≡ false) × (r .marker ≡ m)
+  pub made : Made (m .deck) → Made (r .marker .deck)
 
 -- ---- a light entry
 

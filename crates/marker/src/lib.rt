@@ -3,38 +3,36 @@ use deck::Deck;
 use packed::Packed;
 ghost use mathlib.Core.Path.{_≡_};
 ghost use mathlib.Core.Bool.{cond};
-ghost use mathlib.Core.List.{[]};
 ghost use Prim.Native.Nat.{_/_, _≤_};
 ghost use lib.ListN.{length};
-ghost use Rattle.record.specs.Machine.{begin, resting};
+ghost use Rattle.record.specs.Machine.{resting};
 ghost use Rattle.deck.specs.Calls.{view};
-ghost use Rattle.marker.specs.Steps.{awaited, state};
+ghost use Rattle.marker.specs.Steps.{awaited, newMarker};
 ghost use Rattle.marker.specs.Marks.{refusal, Leads, Runs, Marks};
 
-mod form;
 mod light;
 mod reply;
 mod step;
 
 // The bytes of a reply that are still to come are those of `reply` from `from` to `end`; none is to come later than `latest`.
-struct Waits {
-    reply: Packed,
-    from: usize,
-    end: usize,
-    latest: u64,
+pub struct Waits {
+    pub reply: Packed,
+    pub from: usize,
+    pub end: usize,
+    pub latest: u64,
 }
 
 // What is known between two entries. The deck's clock is the time of the entry before.
-struct Marker {
-    deck: Deck,
-    waits: Waits,
+pub struct Marker {
+    pub deck: Deck,
+    pub waits: Waits,
 }
 
 // An entry's fault, 0 if it has none; whether it begins a turn; and the marker after it, the same where there is a fault.
-struct Stepped {
-    fault: u8,
-    begins: bool,
-    marker: Marker,
+pub struct Stepped {
+    pub fault: u8,
+    pub begins: bool,
+    pub marker: Marker,
 }
 
 // Whether an entry is light. If it is: whether it begins a turn, and the marker after it.
@@ -67,8 +65,8 @@ const STOPS: u8 = 26;
 
 impl Marker {
     // Before the first entry.
-    fn start() -> Marker
-        ensures { λ r. ⌜ state 0 [] r ≡ begin ⌝ }
+    pub fn start() -> Marker
+        ensures { λ r. ⌜ r ≡ newMarker ⌝ }
     {
         Marker {
             deck: Deck::power_on(),
@@ -82,7 +80,7 @@ impl Marker {
     }
 
     // The fault of a record that ends here, 0 if it may: no block is open and nothing is awaited.
-    fn ends(self) -> u8
+    pub fn ends(self) -> u8
         ensures { λ r. ⌜ r ≡ cond (resting (view (self .deck)) (awaited (self .waits))) 0 26 ⌝ }
     {
         let deck = self.deck;

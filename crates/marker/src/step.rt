@@ -1,11 +1,10 @@
 // One entry: the tests of document 01 in their order, and then the entry itself.
 use super::Marker;
 use super::Stepped;
-use super::form;
 use deck::Answer;
 use record::Entry;
 ghost use mathlib.Core.Path.{_≡_};
-ghost use mathlib.Core.Bool.{true, not, _&&_};
+ghost use mathlib.Core.Bool.{true, false, not, _&&_};
 ghost use Prim.Native.Nat.{_≤_, _<_, _^_};
 ghost use lib.Dec.{leb};
 ghost use Rattle.timecode.specs.Time.{day};
@@ -165,7 +164,7 @@ impl Marker {
     }
 
     fn refused(self, fault: u8) -> Stepped
-        ensures { λ r. ⌜ (r .fault ≡ fault) × (r .marker ≡ self) ⌝ }
+        ensures { λ r. ⌜ (r .fault ≡ fault) × (r .begins ≡ false) × (r .marker ≡ self) ⌝ }
     {
         Stepped {
             fault: fault,
@@ -174,10 +173,11 @@ impl Marker {
         }
     }
 
-    pub(super) fn step(self, e: Entry) -> Stepped
+    // The marker after this entry, or the entry's fault.
+    pub fn step(self, e: Entry) -> Stepped
         ensures { λ r. ⌜ Steps self e r ⌝ }
     {
-        if !form::formed(e) {
+        if !record::formed(e) {
             return self.refused(MALFORMED);
         }
         let deck = self.deck;

@@ -21,8 +21,8 @@ use Rattle.record.specs.Turns.{Clean}
 use Rattle.record.specs.Marks.{lookAt}
 use Rattle.record.proofs.Handed.{taped, acted-tape, said-is, said-silent}
 use Rattle.record.proofs.Lists.{true-of, le-or-lt, ofKind-append, first-left, Ordered, ordered-all, ordered-first}
-use Rattle.record.specs.Machine.{waiting, peek, beginsAt}
-use Rattle.record.proofs.Readings.{waits, marks, Pass, Passes}
+use Rattle.record.specs.Machine.{waiting, beginsAt}
+use Rattle.record.proofs.Readings.{waits, marks, Pass, Passes, peek-is}
 use Rattle.record.proofs.Opening.{Dirty, Rest}
 use Rattle.record.proofs.Coming.{Comes, deadline, timely, QuietFrom, quiet-replied, quiet-expiry, dropped-of-quiet}
 use Rattle.record.proofs.Ran.{Ran, ran-cons, ran-look, shut-run}
@@ -79,7 +79,7 @@ silent-step k fl c tm es ih o l f s lat t₀ t left b or i y n = go (le-or-lt tm
 -- or at the end
 silent-end : (o : List ℕ) (l f : ℕ) (s : Settings) (lat t₀ t : ℕ) (left : List ℕ) → T (isOpen o) → left ≡ expiry l .bytes
     → (said (deck o l f s) (lookAt t ∷ []) ≡ [] → ⊥) → Ran (deck o l f s) (waiting [] lat) [] t₀ t left (l + 10001 + 9000) (expiry l)
-unfolding run waits marks Passes peek said
+unfolding run waits marks Passes said
 silent-end o l f s lat t₀ t left b p n = go (le-or-lt t (l + 10000))
   where
     d : Deck
@@ -91,7 +91,7 @@ silent-end o l f s lat t₀ t left b p n = go (le-or-lt t (l + 10000))
         let q : looked d t ≡ expired l s = looked-late d t b h in
         record {
           shut = rw q;
-          awaits = rw (q, p);
+          awaits = peek-is d (waiting [] lat) t _ q ∙ ap (λ (n : List ℕ). waiting n (l + 10001 + 9000)) (sym p);
           quiet = λ x g. rw q (quiet-expiry l t₀ x g);
           unmarked = λ i. refl;
           passes = λ z v. tt;

@@ -3,20 +3,19 @@ use Prim.Native.Nat.{ℕ, zero, suc, _+_, _*_, _-_, _/_, _%_, _^_, _≤_, _<_}
 use mathlib.Core.Path.{_≡_, refl, sym, ap, _∙_}
 use mathlib.Core.Bool.{true}
 use mathlib.Core.List.{List, [], _∷_, _++_, append-nil, append-assoc}
-use native.Mathlib.Nat.{pow-suc}
 use native.Mathlib.Numerals.{add-one}
 use native.Mathlib.Omega.{arith}
-use borrow.Author.Tests.{leb-true}
+use borrow.Author.Tests.{lt-ltb, le-ltb, leb-true}
 use borrow.Rule.Slice.PartMut.{midOf, putMid, mid-len, same-len-mid}
 use lib.Dec.{eqb, leb}
 use lib.ListN.{length, getD, take, drop, set, length-drop, length-set, take-append-drop, List·getD-eq-default}
-use lib.Seq.{take-all, take-nil, take-at, take-suc-set, drop-at, drop-cons, drop-drop}
-use Rattle.packed.specs.Numbers.{lowFirst, lowBytes}
+use lib.Seq.{take-all, take-at, take-suc-set, drop-at, drop-cons, drop-drop}
+use Rattle.packed.specs.Numbers.{lowBytes}
 use Rattle.packed.proofs.Bytes.{Bytes, behind}
 use Rattle.packed.proofs.Numbers.{length-low, low-back, bytes-back}
 use Rattle.record.specs.declared.Entry.{Entry}
 use Rattle.record.proofs.Lists.{true-of, and-right}
-use Rattle.record.specs.Bytes.{entryOf, bytesOf, firstEntries, entriesOf, isRecord, noEntry}
+use Rattle.record.specs.Bytes.{entryOf, bytesOf, firstEntries, entriesOf, isRecord, noEntry, readAt}
 
 -- ---- an entry and its bytes
 
@@ -71,6 +70,13 @@ module _ (b : List ℕ) where
 
     pub no-entry-at : length b / 12 ≤ i → getD (entriesOf b) i noEntry ≡ noEntry
     no-entry-at h = List·getD-eq-default (entriesOf b) noEntry (omega (arith, length-entries))
+
+    -- what `read` gives at i
+    pub read-in : i < length b / 12 → readAt b i ≡ record { no = 0; entry = getD (entriesOf b) i noEntry }
+    read-in h = rw (length-entries, lt-ltb i (length b / 12) h)
+
+    pub read-past : length b / 12 ≤ i → readAt b i ≡ record { no = 10; entry = noEntry }
+    read-past h = rw (length-entries, le-ltb i (length b / 12) h, no-entry-at h)
 
     -- the entry that `read` gives at i is the first of those from i on
     pub entries-from : i < length b / 12 → drop i (entriesOf b) ≡ getD (entriesOf b) i noEntry ∷ drop (i + 1) (entriesOf b)

@@ -22,8 +22,8 @@ use Rattle.record.specs.Turns.{Clean, InQuiet, concat}
 use Rattle.record.specs.Marks.{lookAt}
 use Rattle.record.proofs.Handed.{taped, acted-tape, said-is, said-silent, run-is, run-silent, said-look, after-look}
 use Rattle.record.proofs.Lists.{le-or-lt, first-map, first-append, Ordered, ordered-left, ordered-last, ordered-first}
-use Rattle.record.specs.Machine.{Waiting, waiting, peek}
-use Rattle.record.proofs.Readings.{waits, Pass, heard-alone, ordered-of-passes}
+use Rattle.record.specs.Machine.{Waiting, waiting}
+use Rattle.record.proofs.Readings.{waits, Pass, peek-is, heard-alone, ordered-of-passes}
 use Rattle.record.proofs.Opening.{Dirty, clean-or-not, Rest, opening-of-started}
 use Rattle.record.proofs.Coming.{Comes, Timely, QuietFrom, quiet-replied, quiet-expiry}
 use Rattle.record.proofs.Pieces.{ending, leftOf, Piece, Pieces, Going, ShutParts, ShutCut, OpenParts, OpenCut}
@@ -227,14 +227,14 @@ shut-cut-step (suc (suc k)) fl c tm es ihS ihO l f s now lat t₀ t left g =
     shut-own e es l f s (taped k e s) now now lat lat t left w u (u .bytes) (u .timely) (u .others)
 
 shut-cut-end : ShutCut []
-unfolding ofKind said run waits peek
+unfolding ofKind said run waits
 shut-cut-end l f s now lat t₀ t left g =
     let d : Deck = deck [] l f s in
     record {
       own = [];
       pieces = [];
       split = refl;
-      bytes = sym (rw (look-shut (deck [] l f s) t refl) at (g .leaves));
+      bytes = sym (rw (peek-is d (waiting now lat) t _ (look-shut d t refl)) at (g .leaves));
       timely = (tt, tt);
       others = tt;
       next = tt;
@@ -320,7 +320,7 @@ open-cut-late e es ihS o l f s lat t₀ t left b h g =
 
 -- or at the end
 open-cut-end : OpenCut []
-unfolding ofKind said run waits peek
+unfolding ofKind said run waits
 open-cut-end o l f s lat t₀ t left b k f≤ l≤ g = go (le-or-lt t (l + 10000))
   where
     d : Deck
@@ -338,7 +338,7 @@ open-cut-end o l f s lat t₀ t left b k f≤ l≤ g = go (le-or-lt t (l + 10000
           split = refl;
           silent = refl;
           rest = h;
-          comes = record { onTime = record { first = tt; later = tt }; bytes = sym (rw q at (g .leaves)); others = tt };
+          comes = record { onTime = record { first = tt; later = tt }; bytes = sym (rw (peek-is d (waiting [] lat) t _ q) at (g .leaves)); others = tt };
           one = said-is [] d (lookAt t) (expired l s) (silently (expired l s .deck)) q (acted-other (expired l s .deck) (look t) tt);
           next = tt;
           more = tt;

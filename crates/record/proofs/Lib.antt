@@ -19,6 +19,10 @@ pub mod Faults
 pub mod Walk
 pub mod Theorem
 pub mod Unique
+-- an entry by its kind: well formed, handed to the deck
+pub mod Forms
+pub mod ByKind
 -- entries as bytes
 pub mod Bytes
+pub mod Records
 pub mod Examples

@@ -18,7 +18,7 @@ use Rattle.record.specs.Marks.{latest}
 use Rattle.record.proofs.Handed.{taped, acted-tape, after-look}
 use Rattle.record.proofs.Lists.{Ordered, ordered-first}
 use Rattle.record.specs.Machine.{Waiting, waiting, some, await, peek, awaitedAfter, advance, beginsAt, begins}
-use Rattle.record.proofs.Readings.{waits, marks, Pass, Passes, begins-is, of-halves, advance-look, pass-look}
+use Rattle.record.proofs.Readings.{waits, marks, Pass, Passes, begins-is, peek-is, of-halves, advance-look, pass-look}
 use Rattle.record.proofs.Coming.{Timely, QuietFrom}
 
 -- from d and w, over es and then a look at t: no block is open, `left` is awaited by `lat`, the quiet is that of r, no turn begins,
@@ -119,12 +119,12 @@ shut-step (suc (suc k)) fl c tm es ih l f s now lat t₀ t left r o y p a q =
     (ih l f (taped k e s) now lat tm t left r (o .1) y p a (λ x h. q x (omega arith)))
 
 pub shut-run : (es : List Entry) → ShutRun es
-unfolding run waits marks Passes peek ofKind
+unfolding run waits marks Passes ofKind
 shut-run [] = λ l f s now lat t₀ t left r o y p a q.
     let u = look-shut (deck [] l f s) t refl in
     record {
       shut = rw u;
-      awaits = rw (u, p);
+      awaits = peek-is (deck [] l f s) (waiting now lat) t _ u ∙ ap (λ (n : List ℕ). waiting n lat) (sym p);
       quiet = λ x h. rw u (q x h);
       unmarked = λ i. refl;
       passes = λ z v. tt;

@@ -13,7 +13,7 @@ use Rattle.record.specs.declared.Entry.{Entry}
 use Rattle.record.specs.Entries.{WellFormed, handed, afterEntry, run, keep, isController, isDeck, lastTime, All}
 use Rattle.record.proofs.Handed.{after-is}
 use Rattle.record.proofs.Lists.{keep-append, Ordered}
-use Rattle.record.specs.Machine.{Waiting, waiting, some, await, awaitedAfter, advance, beginsAt, begins}
+use Rattle.record.specs.Machine.{Waiting, waiting, some, await, peek, awaitedAfter, advance, beginsAt, begins}
 
 -- what is awaited after the entries
 unfoldable pub waits : Deck → Waiting → List Entry → Waiting
@@ -60,6 +60,11 @@ advance-is d w e L E p q =
 pub begins-is : (d : Deck) (e : Entry) (L : Answer) → looked d (e .time) ≡ L → begins d e ≡ beginsAt L e
 unfolding begins
 begins-is d e L p = ap (λ (A : Answer). beginsAt A e) p
+
+-- .. and what is awaited at a time, by the deck's answer to it
+pub peek-is : (d : Deck) (w : Waiting) (t : ℕ) (L : Answer) → looked d t ≡ L → peek d w t ≡ await (L .replies) w
+unfolding peek
+peek-is d w t L p = ap (λ (A : Answer). await (A .replies) w) p
 
 -- what holds after the halves holds after the entry, and the other way round
 pub of-halves : (P : Deck → Waiting → Type 0) (d : Deck) (w : Waiting) (e : Entry) (L E : Answer)

@@ -13,8 +13,8 @@ use Rattle.record.specs.Turns.{Full, Silent, Flagged, Opening, Begun, Tu
 use Rattle.record.specs.Marks.{lookAt, Awaited}
 use Rattle.record.proofs.Handed.{said-silent, run-append, said-append}
 use Rattle.record.proofs.Lists.{first-left, steps-of-ordered}
-use Rattle.record.specs.Machine.{waiting, peek}
-use Rattle.record.proofs.Readings.{deckNow, waitingNow, PassesNow, formed-of-passes, ordered-of-passes}
+use Rattle.record.specs.Machine.{waiting}
+use Rattle.record.proofs.Readings.{deckNow, waitingNow, PassesNow, peek-is, formed-of-passes, ordered-of-passes}
 use Rattle.record.proofs.Turned.{Rests}
 use Rattle.record.proofs.Pieces.{leftOf, Piece, Pieces, Going, ShutParts}
 use Rattle.record.proofs.Cuts.{cuts}
@@ -112,7 +112,6 @@ parts-tape es t left p =
 -- ---- what passes all tests and ends at rest is sound
 
 pub accepted-sound : (es : List Entry) → PassesNow es → Rests (deckNow es) (waitingNow es) → Sound es
-unfolding peek
 accepted-sound es p z =
     record {
       formed = formed-of-passes 0 atPowerOn (waiting [] 0) es p;
@@ -134,7 +133,7 @@ accepted-sound es p z =
     q = look-shut (deckNow es) t (z .shut)
 
     u : ShutParts atPowerOn 0 [] 0 es t []
-    u = parts es t [] (record { passes = p; shut = rw q (z .shut); leaves = rw q (z .left); late = omega arith })
+    u = parts es t [] (record { passes = p; shut = rw q (z .shut); leaves = rw (peek-is (deckNow es) (waitingNow es) t _ q) (z .left); late = omega arith })
 
 -- ---- what is awaited
 

@@ -24,7 +24,7 @@ use Rattle.record.proofs.Handed.{said-silent, run-append, said-append}
 use Rattle.record.proofs.Lists.{ofKind-append, first-map, first-zip, first-left, all-left, all-right}
 use Rattle.record.proofs.Lists.{Ordered, ordered-left, ordered-right, ordered-first, ordered-of-steps}
 use Rattle.record.specs.Machine.{Waiting, waiting, peek, awaitedAfter, beginsAt}
-use Rattle.record.proofs.Readings.{waits, marks, Pass, Passes, deckNow, waitingNow, PassesNow, begins-is, of-halves}
+use Rattle.record.proofs.Readings.{waits, marks, Pass, Passes, deckNow, waitingNow, PassesNow, begins-is, peek-is, of-halves}
 use Rattle.record.proofs.Readings.{waits-append, marks-append, passes-append}
 use Rattle.record.proofs.Opening.{Started, started-of-opening}
 use Rattle.record.proofs.Coming.{Comes, deadline, QuietFrom, quiet-replied}
@@ -153,9 +153,8 @@ unfolding said
 said-zero d = said-silent [] d d (lookAt 0) (look-zero d) (acted-other d (look 0) tt)
 
 rests-zero : (d : Deck) (w : Waiting) (lat : ℕ) → looked d 0 .deck .block ≡ [] → peek d w 0 ≡ waiting [] lat → Rests d w
-unfolding peek
 rests-zero d w lat s a =
-    record { shut = rw (look-zero d) at s; left = ap (λ (W : Waiting). W .left) (rw (look-zero d) at a) }
+    record { shut = rw (look-zero d) at s; left = ap (λ (W : Waiting). W .left) (sym (peek-is d w 0 _ (look-zero d)) ∙ a) }
 
 turn-run : (d : Deck) (w : Waiting) (span rest : List Entry) (t₀ : ℕ) → Rests d w → Turn d span rest → Ordered t₀ (span ++ rest)
     → First (λ e. d .free ≤ e .time) (controller (span ++ rest)) → Whole d w span rest t₀ (λ i. i ∷ [])

@@ -1,11 +1,14 @@
 -- Document 01, "Line record and turns": entries, and how the deck is handed them.
 use mathlib.Core.Bool.{Bool, true, false, _&&_}
 use mathlib.Core.List.{List, [], _∷_, _++_, map}
+use mathlib.Core.Path.{_≡_}
 use Prim.Native.Nat.{ℕ, zero, suc, _^_}
 use lib.Dec.{T, eqb, ltb}
 use Rattle.timecode.specs.Time.{day}
+use Rattle.deck.specs.declared.Deck.{Deck as Held}
+use Rattle.deck.specs.declared.Answer.{Answer as Returned}
 use Rattle.deck.specs.Line.{Event, byte, look, position, cassette, Deck, Reply, after, says}
-use Rattle.deck.specs.Calls.{flagsFit}
+use Rattle.deck.specs.Calls.{flagsFit, told, Answers}
 use Rattle.record.specs.declared.Entry.{Entry}
 
 abbrev pub entry : (kind flags content time : ℕ) → Entry
@@ -44,6 +47,22 @@ handedAs (suc (suc k)) e = tapeEvent k e
 
 abbrev pub handed : Entry → Event
 handed e = handedAs (e .kind) e
+
+-- Kind 0 with content under 256 is a byte with its flags as they stand, kind 1 (content under 256, flags 0) a look, kind 2
+-- (flags 0) a position as it stands, kind 3 (flags and content 0) a cassette; any other entry is not meant for the deck. The
+-- deck itself refuses flags and positions that are none.
+unfoldable pub meant : ℕ → Entry → Bool
+meant zero e = ltb (e .content) 256
+meant (suc zero) e = eqb (e .flags) 0 && ltb (e .content) 256
+meant (suc (suc zero)) e = eqb (e .flags) 0
+meant (suc (suc (suc zero))) e = eqb (e .flags) 0 && eqb (e .content) 0
+meant (suc (suc (suc (suc k)))) e = false
+
+-- the code's deck, handed any entry: it answers one that is meant, and any other has a field out of its range, so 9 FIELD. "All
+-- of these but 0 return no other content (zeros ..) and change nothing."
+pub record Hands (d : Held) (e : Entry) (entry : List ℕ) (r : Returned) (exit : List ℕ) : Type 0 where
+  pub answers : meant (e .kind) e ≡ true → Answers d (handed e) entry r exit
+  pub refused : meant (e .kind) e ≡ false → (r ≡ record { no = 9; deck = d; first = told []; second = told [] }) × (exit ≡ entry)
 
 -- the deck after an entry, and what it says to it
 unfoldable pub afterEntry : Deck → Entry → Deck

@@ -80,7 +80,7 @@ below p (s ∷ ss) = keep (ltb s p) s (below p ss)
 
 -- fault 0 says sound; `before` are the entries before the place, `from` the others
 pub record Marked (before from : List Entry) (fault : ℕ) (turnStarts : List ℕ) : Type 0 where
-  -- "sound" exactly when the whole record can be cut into turns by the turn rules
+  -- "`sound` exactly when the whole record can be cut into turns by the turn rules of document 01"
   pub sound : (fault ≡ 0) ↔ Sound (before ++ from)
   -- "a sound record's place is its number of entries"
   pub whole : fault ≡ 0 → from ≡ []

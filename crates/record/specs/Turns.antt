@@ -14,7 +14,7 @@ use Rattle.record.specs.Entries.{WellFormed, run, said, controller, from
 abbrev pub Clean : Entry → Type 0
 Clean e = e .flags ≡ 0
 
--- "a proper beginning of one, perhaps empty": of a full clean block
+-- "a proper beginning of one", of a full clean block; perhaps empty
 pub record Beginning (es : List Entry) : Type 0 where
   pub clean : All Clean es
   pub proper : length es < size (contents es)

@@ -1,15 +1,23 @@
 // Line records: entries of 12 bytes.
 use deck::LAST_TIME;
+pub use form::formed;
+pub use handing::hand;
+pub use handing::meant;
 ghost use mathlib.Core.Path.{_≡_};
 ghost use mathlib.Core.List.{[], _∷_};
 ghost use Prim.Native.Nat.{_≤_};
-ghost use lib.ListN.{length, getD};
+ghost use lib.ListN.{length};
 ghost use Rattle.packed.specs.Numbers.{lowFirst, lowBytes};
-ghost use Rattle.record.specs.Bytes.{entryOf, entriesOf, isRecord, noEntry, written, writtenOut};
+ghost use Rattle.record.specs.Bytes.{entryOf, isRecord, readAt, written, writtenOut};
+
+mod form;
+mod handing;
 
 const ROOM: u8 = 1;
 
 const LATE: u8 = 2;
+
+const RECORD: u8 = 10;
 
 const LONGEST: usize = 65532;
 
@@ -18,6 +26,12 @@ pub struct Entry {
     pub flags: u8,
     pub content: u32,
     pub time: u64,
+}
+
+// The entry that was read, or the number that says that there is none.
+pub struct Fetched {
+    pub no: u8,
+    pub entry: Entry,
 }
 
 // How many bytes were written, or the number that refuses the call.
@@ -63,19 +77,25 @@ pub fn is_record(size: usize) -> bool
     size <= LONGEST
 }
 
-// The entry at this number, an entry of zeros where the bytes have no such whole entry.
-pub fn read(bytes: &[u8], place: usize) -> Entry
-    ensures { λ r. ⌜ r ≡ getD (entriesOf (now (bytes .entry))) place noEntry ⌝ }
+// The entry at this number; 10 and an entry of zeros where the bytes have no such whole entry.
+pub fn read(bytes: &[u8], place: usize) -> Fetched
+    ensures { λ r. ⌜ r ≡ readAt (now (bytes .entry)) place ⌝ }
 {
     if place < bytes.len() / 12 {
         let at = place * 12;
-        return first(&bytes[at..]);
+        return Fetched {
+            no: 0,
+            entry: first(&bytes[at..]),
+        };
     }
-    Entry {
-        kind: 0,
-        flags: 0,
-        content: 0,
-        time: 0,
+    Fetched {
+        no: RECORD,
+        entry: Entry {
+            kind: 0,
+            flags: 0,
+            content: 0,
+            time: 0,
+        },
     }
 }
 

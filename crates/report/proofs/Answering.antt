@@ -14,9 +14,10 @@ use Rattle.deck.specs.Line.{Event, timeOf, Deck, Reply, answers, after, says}
 use Rattle.deck.specs.Calls.{number, told, replyBytes, Call, takenCall, refusedCall, call, view, seen, Answers}
 use Rattle.deck.proofs.Numbers.{call-is}
 use Rattle.record.specs.declared.Entry.{Entry}
-use Rattle.record.specs.Entries.{handed}
-use Rattle.report.specs.Text.{atLine, refused}
-use Rattle.report.specs.Transcript.{meant, replyLine, replyLines, malformedLine, Standing, entryLines, stands}
+use Rattle.record.specs.Entries.{handed, meant, Hands}
+use Rattle.text.specs.Text.{atLine}
+use Rattle.report.specs.Text.{refused}
+use Rattle.report.specs.Transcript.{replyLine, replyLines, malformedLine, Standing, entryLines, stands}
 use Rattle.report.specs.Answered.{standing, sentLine, callLines}
 use Rattle.report.proofs.Sized.{Sized, says-sized}
 
@@ -93,7 +94,10 @@ module _ (clock : ℕ) (d : Deck) (e : Event) (out : List ℕ) (room : length ou
 -- ---- an entry that is handed to the deck
 
 module _ (d : Held) (e : Entry) (out exit : List ℕ) (q : Returned) (room : length out ≡ 18) (m : meant (e .kind) e ≡ true)
-    (x : Answers d (handed e) out q exit) where
+    (h : Hands d e out q exit) where
+  abbrev x : Answers d (handed e) out q exit
+  x = h .answers m
+
   pub entry-lines : (k : ℕ) → callLines k (seen q exit) ≡ entryLines k (standing d) e
   unfolding entryLines
   entry-lines k = ap (callLines k) (x .seen-is) ∙ call-lines (d .clock) (view d) (handed e) out room k ∙ rw m

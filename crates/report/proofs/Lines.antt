@@ -6,9 +6,9 @@ use native.Mathlib.Numerals.{add-one}
 use native.Mathlib.Omega.{arith}
 use lib.ListN.{length, take, getD, length-append}
 use lib.Seq.{take-suc}
-use Rattle.report.specs.Text.{line}
+use Rattle.text.specs.Text.{line}
+use Rattle.text.proofs.Digits.{few}
 use Rattle.report.specs.Verdict.{turnLine, turnLines}
-use Rattle.report.proofs.Digits.{few}
 
 -- "turn ", ten digits at most, and the end
 pub turn-short : (start : ℕ) → start < 2 ^ 32 → length (turnLine start) ≤ 16

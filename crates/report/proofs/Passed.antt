@@ -10,10 +10,10 @@ use Rattle.deck.specs.Calls.{newDeck}
 use Rattle.record.specs.declared.Entry.{Entry}
 use Rattle.record.specs.Bytes.{entriesOf, noEntry}
 use Rattle.record.proofs.Bytes.{length-entries, entries-from}
-use Rattle.report.specs.Puts.{Puts}
+use Rattle.text.specs.Puts.{Puts}
+use Rattle.text.proofs.Putting.{none, joined}
 use Rattle.report.specs.Transcript.{Standing, entryLines, stands, settingsLines, transcriptFrom}
 use Rattle.report.specs.Answered.{standing}
-use Rattle.report.proofs.Putting.{none, joined}
 
 -- ---- a transcript, line by line
 

@@ -7,7 +7,8 @@ use lib.ListN.{take, drop}
 use Rattle.deck.specs.declared.Deck.{Deck as Held}
 use Rattle.deck.specs.declared.Sent.{Sent}
 use Rattle.deck.specs.Calls.{Call, view}
-use Rattle.report.specs.Text.{atLine, refused}
+use Rattle.text.specs.Text.{atLine}
+use Rattle.report.specs.Text.{refused}
 use Rattle.report.specs.Transcript.{Standing, replyLine}
 
 -- the code's deck between two entries

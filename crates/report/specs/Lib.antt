@@ -1,6 +1,5 @@
 -- What the contracts of `report` mean.
 pub mod Text
-pub mod Puts
 pub mod Verdict
 pub mod Transcript
 pub mod Answered

@@ -1,8 +1,8 @@
 -- What the program `answer` prints: what the deck says to a record's entries, and how it stands after them.
-use Prim.Native.Nat.{ℕ, zero, suc, _+_, _*_, _/_}
-use mathlib.Core.Bool.{Bool, false, cond, _&&_}
+use Prim.Native.Nat.{ℕ, suc, _+_, _*_, _/_}
+use mathlib.Core.Bool.{cond, _&&_}
 use mathlib.Core.List.{List, [], _∷_, _++_}
-use lib.Dec.{eqb, ltb}
+use lib.Dec.{eqb}
 use lib.IntN.{ℤ, pos, negsuc}
 use lib.ListN.{length}
 use Rattle.settings.specs.declared.Settings.{Settings}
@@ -11,23 +11,14 @@ use Rattle.timecode.specs.Time.{writeTime}
 use Rattle.deck.specs.Line.{Deck, atPowerOn, Reply, timeOf, after, says}
 use Rattle.deck.specs.Calls.{number}
 use Rattle.record.specs.declared.Entry.{Entry}
-use Rattle.record.specs.Entries.{handed}
+use Rattle.record.specs.Entries.{handed, meant}
 use Rattle.record.specs.Bytes.{entriesOf, isRecord}
-use Rattle.report.specs.Text.{decimal, line, hexLine, atLine, refused, refusedLine}
+use Rattle.text.specs.Text.{decimal, line, hexLine, atLine}
+use Rattle.report.specs.Text.{refused, refusedLine}
 
 -- ---- an entry
 
--- Kind 0 with content under 256 is a byte with its flags as they stand, kind 1 (content under 256, flags 0) a look, kind 2
--- (flags 0) a position as it stands, kind 3 (flags and content 0) a cassette; any other entry is malformed. The deck itself
--- refuses flags and positions that are none.
-unfoldable pub meant : ℕ → Entry → Bool
-meant zero e = ltb (e .content) 256
-meant (suc zero) e = eqb (e .flags) 0 && ltb (e .content) 256
-meant (suc (suc zero)) e = eqb (e .flags) 0
-meant (suc (suc (suc zero))) e = eqb (e .flags) 0 && eqb (e .content) 0
-meant (suc (suc (suc (suc k)))) e = false
-
--- "reply 600 10 01 11": the due time and the bytes
+-- `reply 600 10 01 11`: the due time and the bytes
 abbrev pub replyLine : Reply → List ℕ
 replyLine r = (114 ∷ 101 ∷ 112 ∷ 108 ∷ 121 ∷ 32 ∷ []) ++ hexLine (decimal (r .due)) (r .bytes)
 
@@ -35,7 +26,7 @@ unfoldable pub replyLines : List Reply → List ℕ
 replyLines [] = []
 replyLines (r ∷ rs) = replyLine r ++ replyLines rs
 
--- "malformed at 3"
+-- `malformed at 3`
 abbrev pub malformedLine : ℕ → List ℕ
 malformedLine k =
     line (109 ∷ 97 ∷ 108 ∷ 102 ∷ 111 ∷ 114 ∷ 109 ∷ 101 ∷ 100 ∷ 32 ∷ 97 ∷ 116 ∷ 32 ∷ []) k
@@ -49,7 +40,7 @@ pub record Standing : Type 0 where
 abbrev pub numberFor : Standing → Entry → ℕ
 numberFor s e = number 18 (s .clock) (handed e)
 
--- "refused 3 at 7": the number, and the entry's
+-- `refused 3 at 7`: the number, and the entry's
 unfoldable pub entryLines : ℕ → Standing → Entry → List ℕ
 entryLines k s e =
     cond (meant (e .kind) e)
@@ -65,12 +56,12 @@ stands s e =
 
 -- ---- the end
 
--- "speed -1000": the number of thousandths with its sign
+-- `speed -1000`: the number of thousandths with its sign
 unfoldable pub speedLine : ℤ → List ℕ
 speedLine (pos n) = line (115 ∷ 112 ∷ 101 ∷ 101 ∷ 100 ∷ 32 ∷ []) n
 speedLine (negsuc n) = line (115 ∷ 112 ∷ 101 ∷ 101 ∷ 100 ∷ 32 ∷ 45 ∷ []) (suc n)
 
--- "time 00 00 00 00": the four BCD bytes of a position, frames first
+-- `time 00 00 00 00`: the four BCD bytes of a position, frames first
 abbrev pub timeLine : List ℕ → ℕ → List ℕ
 timeLine words position = hexLine words (writeTime position .bytes)
 

@@ -5,7 +5,8 @@ use mathlib.Core.List.{List, [], _∷_, _++_}
 use lib.Dec.{eqb}
 use lib.ListN.{length}
 use Rattle.marker.specs.declared.Marked.{Marked}
-use Rattle.report.specs.Text.{line, atLine, refusedLine}
+use Rattle.text.specs.Text.{line, atLine}
+use Rattle.report.specs.Text.{refusedLine}
 
 -- "sound 1"
 abbrev pub soundLine : ℕ → List ℕ

@@ -8,7 +8,6 @@ ghost use Rattle.report.specs.Verdict.{textOf, roomFor};
 ghost use Rattle.report.specs.Transcript.{transcript, roomFor as roomForBytes};
 
 mod entries;
-mod put;
 mod standing;
 mod verdict;
 

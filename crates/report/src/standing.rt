@@ -1,11 +1,10 @@
 // The last five lines of the program `answer`: how the deck stands.
-use super::put;
 use settings::Settings;
 ghost use Prim.Native.Nat.{_+_, _≤_};
 ghost use mathlib.Core.Path.{_≡_};
 ghost use lib.ListN.{length};
 ghost use Rattle.report.specs.Transcript.{speedLine, timeLine, timeLines, settingsLines};
-ghost use Rattle.report.specs.Puts.{Puts};
+ghost use Rattle.text.specs.Puts.{Puts};
 
 fn put_speed(out: &mut [u8], at: usize, v: i32) -> usize
     requires { ⌜ at + 28 ≤ length (now out) ⌝ }
@@ -13,9 +12,9 @@ fn put_speed(out: &mut [u8], at: usize, v: i32) -> usize
     ensures { λ r. ⌜ r ≤ at + 28 ⌝ }
 {
     if v < 0 {
-        return put::put_line(out, at, b"speed -", speed::size(v));
+        return text::line(out, at, b"speed -", speed::size(v)).end;
     }
-    put::put_line(out, at, b"speed ", speed::size(v))
+    text::line(out, at, b"speed ", speed::size(v)).end
 }
 
 fn put_time(out: &mut [u8], at: usize, words: &[u8], position: u32) -> usize
@@ -24,7 +23,7 @@ fn put_time(out: &mut [u8], at: usize, words: &[u8], position: u32) -> usize
     ensures { λ r. ⌜ r ≡ at + length (now (words .entry)) + 13 ⌝ }
 {
     let time = timecode::time(position);
-    put::put_hex_line(out, at, words, &time.bytes)
+    text::hex_line(out, at, words, &time.bytes).end
 }
 
 fn put_times(out: &mut [u8], at: usize, settings: Settings) -> usize
@@ -43,7 +42,7 @@ pub(super) fn put_settings(out: &mut [u8], at: usize, settings: Settings) -> usi
     ensures { λ r. ⌜ r ≤ at + 128 ⌝ }
 {
     let status = settings.status();
-    let from = put::put_hex_line(out, at, b"status", &status);
+    let from = text::hex_line(out, at, b"status", &status).end;
     let end = put_times(out, from, settings);
     put_speed(out, end, settings.speed)
 }

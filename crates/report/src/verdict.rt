@@ -1,22 +1,21 @@
 // The lines of the program `mark`.
-use super::put;
 use marker::Marked;
 ghost use Prim.Native.Nat.{_+_, _*_, _≤_};
 ghost use lib.ListN.{length};
 ghost use Rattle.report.specs.Verdict.{turnLine, turnLines, verdictLine, textOf, roomFor};
-ghost use Rattle.report.specs.Puts.{Puts};
+ghost use Rattle.text.specs.Puts.{Puts};
 
 // A line for a turn is at most 16 bytes long.
 fn put_turn(out: &mut [u8], at: usize, start: u32) -> usize
-    requires { ⌜ at + 26 ≤ length (now out) ⌝ }
+    requires { ⌜ at + 16 ≤ length (now out) ⌝ }
     ensures { λ r. ⌜ Puts (now (out .entry)) at (turnLine start) (now (out .exit)) r ⌝ }
     ensures { λ r. ⌜ r ≤ at + 16 ⌝ }
 {
-    put::put_line(out, at, b"turn ", start as u64)
+    text::line(out, at, b"turn ", start as u64).end
 }
 
 fn put_turns(out: &mut [u8], at: usize, starts: &[u32]) -> usize
-    requires { ⌜ at + 16 * length (now starts) + 10 ≤ length (now out) ⌝ }
+    requires { ⌜ at + 16 * length (now starts) ≤ length (now out) ⌝ }
     ensures { λ r. ⌜ Puts (now (out .entry)) at (turnLines (now (starts .entry))) (now (out .exit)) r ⌝ }
 {
     let mut end = at;
@@ -34,9 +33,9 @@ fn put_verdict(out: &mut [u8], marked: Marked) -> usize
     ensures { λ r. ⌜ r ≤ 51 ⌝ }
 {
     if marked.fault == 0 {
-        return put::put_line(out, 0, b"sound ", marked.count as u64);
+        return text::line(out, 0, b"sound ", marked.count as u64).end;
     }
-    put::put_at(out, 0, b"fault ", marked.fault as u64, marked.place as u64)
+    text::at_line(out, 0, b"fault ", marked.fault as u64, marked.place as u64).end
 }
 
 pub(super) fn put_text(out: &mut [u8], marked: Marked, starts: &[u32]) -> usize
@@ -44,7 +43,7 @@ pub(super) fn put_text(out: &mut [u8], marked: Marked, starts: &[u32]) -> usize
     ensures { λ r. ⌜ Puts (now (out .entry)) 0 (textOf marked (now (starts .entry))) (now (out .exit)) r ⌝ }
 {
     if marked.no != 0 {
-        return put::put_line(out, 0, b"refused ", marked.no as u64);
+        return text::line(out, 0, b"refused ", marked.no as u64).end;
     }
     let end = put_verdict(out, marked);
     put_turns(out, end, starts)

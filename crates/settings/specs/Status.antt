@@ -36,7 +36,7 @@ isZero (pos zero) = true
 isZero (pos (suc n)) = false
 isZero (negsuc n) = false
 
--- "Byte 0, bit 0 local on, bit 5 cassette out."
+-- "byte 0, bit 0 local on, bit 5 cassette out."
 abbrev pub status0 : Settings → ℕ
 status0 s = bit (s .local) + 32 * bit (not (s .cassette))
 

@@ -67,177 +67,161 @@ row-byte : (i : ℕ) → getD commands i noCommand .command < 256
 unfolding commands bytes
 row-byte i = byte-at commands i tt
 
-long : (i : ℕ) → i < 36 → i < length commands
-unfolding commands
-long i h = h
+-- what is left of the list from `i` gives the same answer as the whole
+abbrev Rest : ℕ → ℕ → ℕ → Type 0
+Rest i f c = lookup (drop i commands) f c ≡ lookup commands f c
 
-abbrev Inv-loop : tie.InvT-loop
-Inv-loop first command wanted table i₀ i = (i ≤ 12) × (lookup (drop i commands) first command ≡ lookup commands first command)
+-- The step of each loop: the row at `i` is the one looked for, or the rest of the list behind it answers.
+module _ (table : List Command) (i f c : ℕ) (all : table ≡ commands) (here : i < length commands) (rest : Rest i f c) where
+  abbrev r : Command
+  r = getD table i noCommand
 
-abbrev μ-loop : tie.MeasureT-loop
-μ-loop first command wanted table i₀ i = 12 - i
+  found : c < 256 → code (r .first) (r .command) ≡ code f c → r .kind ≡ lookup commands f c
+  found h e =
+      let small : r .command < 256 = rw all (row-byte i) in
+      rw all (sym (one-more commands noCommand i f c true here (rw all at (same r f c small h e))) ∙ rest)
 
-abbrev Inv-loop2 : tie.InvT-loop2
-Inv-loop2 first command wanted table i₀ i = (i ≤ 24) × (lookup (drop i commands) first command ≡ lookup commands first command)
+  passed : (code (r .first) (r .command) ≡ code f c → ⊥) → Rest (i + 1) f c
+  passed n = sym (one-more commands noCommand i f c false here (rw all at (other r f c n))) ∙ rest
 
-abbrev μ-loop2 : tie.MeasureT-loop2
-μ-loop2 first command wanted table i₀ i = 24 - i
+-- one invariant and one measure for the three loops
+abbrev Inv : tie.InvT-loop
+Inv first command wanted table i₀ i = Rest i first command
 
-abbrev Inv-loop3 : tie.InvT-loop3
-Inv-loop3 first command wanted table i₀ i = (i ≤ 36) × (lookup (drop i commands) first command ≡ lookup commands first command)
+abbrev μ : tie.MeasureT-loop
+μ first command wanted table i₀ i = length commands - i
 
-abbrev μ-loop3 : tie.MeasureT-loop3
-μ-loop3 first command wanted table i₀ i = 36 - i
-
-code-requires : tie.Need-code-requires Inv-loop μ-loop Inv-loop2 μ-loop2 Inv-loop3 μ-loop3
+code-requires : tie.Need-code-requires Inv μ Inv μ Inv μ
 code-requires c κs = search needs
 
-rows-requires : tie.Need-rows-requires Inv-loop μ-loop Inv-loop2 μ-loop2 Inv-loop3 μ-loop3
+rows-requires : tie.Need-rows-requires Inv μ Inv μ Inv μ
 rows-requires c κs = search needs
 
-loop-holds : tie.Need-loop-holds Inv-loop μ-loop Inv-loop2 μ-loop2 Inv-loop3 μ-loop3
+loop-holds : tie.Need-loop-holds Inv μ Inv μ Inv μ
 loop-holds c = search needs
 
-mul-c : tie.Need-mul-c Inv-loop μ-loop Inv-loop2 μ-loop2 Inv-loop3 μ-loop3
+mul-c : tie.Need-mul-c Inv μ Inv μ Inv μ
 mul-c c = search needs
 
-array-copy-out-c : tie.Need-array-copy-out-c Inv-loop μ-loop Inv-loop2 μ-loop2 Inv-loop3 μ-loop3
+array-copy-out-c : tie.Need-array-copy-out-c Inv μ Inv μ Inv μ
 array-copy-out-c c = search needs
 
-code-requires-2 : tie.Need-code-requires-2 Inv-loop μ-loop Inv-loop2 μ-loop2 Inv-loop3 μ-loop3
+code-requires-2 : tie.Need-code-requires-2 Inv μ Inv μ Inv μ
 code-requires-2 c κs = search needs
 
-returns : tie.Need-returns Inv-loop μ-loop Inv-loop2 μ-loop2 Inv-loop3 μ-loop3
+returns : tie.Need-returns Inv μ Inv μ Inv μ
+unfolding commands
 returns c =
     let l = c .before .before .before .before .loop in
-    let p = c .before .before .before .before in
-    let e = p .before .rows .ensures in
-    let f = p .before .before .before .args .first in
-    let b = p .before .before .before .args .command in
-    let r = getD (p .before .rows .result) (l .i) noCommand in
-    let here : l .i < length commands = long (l .i) (omega arith) in
-    let small : r .command < 256 = rw e (row-byte (l .i)) in
-    let hits : hit r f b ≡ true = same r f b small (omega arith) (omega (arith, c .if1 .taken, c .before .code2 .ensures, p .before .before .code .ensures)) in
-    rw e (sym (one-more commands noCommand (l .i) f b true here (rw e at hits)) ∙ l .inv .1)
+    let p = c .before .before .before .before .before in
+    let a = p .before .before .args in
+    found (p .rows .result) (l .i) (a .first) (a .command) (p .rows .ensures) (omega arith) (l .inv) (omega arith)
+    (omega (arith, c .if1 .taken, c .before .code2 .ensures, p .before .code .ensures))
 
-add-i : tie.Need-add-i Inv-loop μ-loop Inv-loop2 μ-loop2 Inv-loop3 μ-loop3
+add-i : tie.Need-add-i Inv μ Inv μ Inv μ
 add-i c = search needs
 
-loop-less : tie.Need-loop-less Inv-loop μ-loop Inv-loop2 μ-loop2 Inv-loop3 μ-loop3
-loop-less c = search needs
+loop-less : tie.Need-loop-less Inv μ Inv μ Inv μ
+unfolding commands
+loop-less c = omega arith
 
-loop-again : tie.Need-loop-again Inv-loop μ-loop Inv-loop2 μ-loop2 Inv-loop3 μ-loop3
+loop-again : tie.Need-loop-again Inv μ Inv μ Inv μ
+unfolding commands
 loop-again c =
     let l = c .before .before .before .before .loop in
-    let p = c .before .before .before .before in
-    let e = p .before .rows .ensures in
-    let f = p .before .before .before .args .first in
-    let b = p .before .before .before .args .command in
-    let r = getD (p .before .rows .result) (l .i) noCommand in
-    let here : l .i < length commands = long (l .i) (omega arith) in
-    let misses : hit r f b ≡ false = other r f b (λ h. c .if1 .left (omega (arith, h, c .before .code2 .ensures, p .before .before .code .ensures))) in
-    (omega arith, sym (one-more commands noCommand (l .i) f b false here (rw e at misses)) ∙ l .inv .1)
+    let p = c .before .before .before .before .before in
+    let a = p .before .before .args in
+    passed (p .rows .result) (l .i) (a .first) (a .command) (p .rows .ensures) (omega arith) (l .inv)
+    (λ e. c .if1 .left (omega (arith, e, c .before .code2 .ensures, p .before .code .ensures)))
 
-loop2-holds : tie.Need-loop2-holds Inv-loop μ-loop Inv-loop2 μ-loop2 Inv-loop3 μ-loop3
+loop2-holds : tie.Need-loop2-holds Inv μ Inv μ Inv μ
 loop2-holds c = search needs
 
-mul-c-2 : tie.Need-mul-c-2 Inv-loop μ-loop Inv-loop2 μ-loop2 Inv-loop3 μ-loop3
+mul-c-2 : tie.Need-mul-c-2 Inv μ Inv μ Inv μ
 mul-c-2 c = search needs
 
-array-copy-out-c-2 : tie.Need-array-copy-out-c-2 Inv-loop μ-loop Inv-loop2 μ-loop2 Inv-loop3 μ-loop3
+array-copy-out-c-2 : tie.Need-array-copy-out-c-2 Inv μ Inv μ Inv μ
 array-copy-out-c-2 c = search needs
 
-code-requires-3 : tie.Need-code-requires-3 Inv-loop μ-loop Inv-loop2 μ-loop2 Inv-loop3 μ-loop3
+code-requires-3 : tie.Need-code-requires-3 Inv μ Inv μ Inv μ
 code-requires-3 c κs = search needs
 
-returns-2 : tie.Need-returns-2 Inv-loop μ-loop Inv-loop2 μ-loop2 Inv-loop3 μ-loop3
+returns-2 : tie.Need-returns-2 Inv μ Inv μ Inv μ
+unfolding commands
 returns-2 c =
     let l = c .before .before .before .before .loop2 in
-    let p = c .before .before .before .before .before .before in
-    let e = p .before .rows .ensures in
-    let f = p .before .before .before .args .first in
-    let b = p .before .before .before .args .command in
-    let r = getD (p .before .rows .result) (l .i) noCommand in
-    let here : l .i < length commands = long (l .i) (omega arith) in
-    let small : r .command < 256 = rw e (row-byte (l .i)) in
-    let hits : hit r f b ≡ true = same r f b small (omega arith) (omega (arith, c .if2 .taken, c .before .code3 .ensures, p .before .before .code .ensures)) in
-    rw e (sym (one-more commands noCommand (l .i) f b true here (rw e at hits)) ∙ l .inv .1)
+    let p = c .before .before .before .before .before .before .before in
+    let a = p .before .before .args in
+    found (p .rows .result) (l .i) (a .first) (a .command) (p .rows .ensures) (omega arith) (l .inv) (omega arith)
+    (omega (arith, c .if2 .taken, c .before .code3 .ensures, p .before .code .ensures))
 
-add-i-2 : tie.Need-add-i-2 Inv-loop μ-loop Inv-loop2 μ-loop2 Inv-loop3 μ-loop3
+add-i-2 : tie.Need-add-i-2 Inv μ Inv μ Inv μ
 add-i-2 c = search needs
 
-loop2-less : tie.Need-loop2-less Inv-loop μ-loop Inv-loop2 μ-loop2 Inv-loop3 μ-loop3
-loop2-less c = search needs
+loop2-less : tie.Need-loop2-less Inv μ Inv μ Inv μ
+unfolding commands
+loop2-less c = omega arith
 
-loop2-again : tie.Need-loop2-again Inv-loop μ-loop Inv-loop2 μ-loop2 Inv-loop3 μ-loop3
+loop2-again : tie.Need-loop2-again Inv μ Inv μ Inv μ
+unfolding commands
 loop2-again c =
     let l = c .before .before .before .before .loop2 in
-    let p = c .before .before .before .before .before .before in
-    let e = p .before .rows .ensures in
-    let f = p .before .before .before .args .first in
-    let b = p .before .before .before .args .command in
-    let r = getD (p .before .rows .result) (l .i) noCommand in
-    let here : l .i < length commands = long (l .i) (omega arith) in
-    let misses : hit r f b ≡ false = other r f b (λ h. c .if2 .left (omega (arith, h, c .before .code3 .ensures, p .before .before .code .ensures))) in
-    (omega arith, sym (one-more commands noCommand (l .i) f b false here (rw e at misses)) ∙ l .inv .1)
+    let p = c .before .before .before .before .before .before .before in
+    let a = p .before .before .args in
+    passed (p .rows .result) (l .i) (a .first) (a .command) (p .rows .ensures) (omega arith) (l .inv)
+    (λ e. c .if2 .left (omega (arith, e, c .before .code3 .ensures, p .before .code .ensures)))
 
-loop3-holds : tie.Need-loop3-holds Inv-loop μ-loop Inv-loop2 μ-loop2 Inv-loop3 μ-loop3
+loop3-holds : tie.Need-loop3-holds Inv μ Inv μ Inv μ
 loop3-holds c = search needs
 
-mul-c-3 : tie.Need-mul-c-3 Inv-loop μ-loop Inv-loop2 μ-loop2 Inv-loop3 μ-loop3
+mul-c-3 : tie.Need-mul-c-3 Inv μ Inv μ Inv μ
 mul-c-3 c = search needs
 
-array-copy-out-c-3 : tie.Need-array-copy-out-c-3 Inv-loop μ-loop Inv-loop2 μ-loop2 Inv-loop3 μ-loop3
+array-copy-out-c-3 : tie.Need-array-copy-out-c-3 Inv μ Inv μ Inv μ
 array-copy-out-c-3 c = search needs
 
-code-requires-4 : tie.Need-code-requires-4 Inv-loop μ-loop Inv-loop2 μ-loop2 Inv-loop3 μ-loop3
+code-requires-4 : tie.Need-code-requires-4 Inv μ Inv μ Inv μ
 code-requires-4 c κs = search needs
 
-returns-3 : tie.Need-returns-3 Inv-loop μ-loop Inv-loop2 μ-loop2 Inv-loop3 μ-loop3
+returns-3 : tie.Need-returns-3 Inv μ Inv μ Inv μ
+unfolding commands
 returns-3 c =
     let l = c .before .before .before .before .loop3 in
-    let p = c .before .before .before .before .before .before .before .before in
-    let e = p .before .rows .ensures in
-    let f = p .before .before .before .args .first in
-    let b = p .before .before .before .args .command in
-    let r = getD (p .before .rows .result) (l .i) noCommand in
-    let here : l .i < length commands = long (l .i) (omega arith) in
-    let small : r .command < 256 = rw e (row-byte (l .i)) in
-    let hits : hit r f b ≡ true = same r f b small (omega arith) (omega (arith, c .if3 .taken, c .before .code4 .ensures, p .before .before .code .ensures)) in
-    rw e (sym (one-more commands noCommand (l .i) f b true here (rw e at hits)) ∙ l .inv .1)
+    let p = c .before .before .before .before .before .before .before .before .before in
+    let a = p .before .before .args in
+    found (p .rows .result) (l .i) (a .first) (a .command) (p .rows .ensures) (omega arith) (l .inv) (omega arith)
+    (omega (arith, c .if3 .taken, c .before .code4 .ensures, p .before .code .ensures))
 
-add-i-3 : tie.Need-add-i-3 Inv-loop μ-loop Inv-loop2 μ-loop2 Inv-loop3 μ-loop3
+add-i-3 : tie.Need-add-i-3 Inv μ Inv μ Inv μ
 add-i-3 c = search needs
 
-loop3-less : tie.Need-loop3-less Inv-loop μ-loop Inv-loop2 μ-loop2 Inv-loop3 μ-loop3
-loop3-less c = search needs
+loop3-less : tie.Need-loop3-less Inv μ Inv μ Inv μ
+unfolding commands
+loop3-less c = omega arith
 
-loop3-again : tie.Need-loop3-again Inv-loop μ-loop Inv-loop2 μ-loop2 Inv-loop3 μ-loop3
+loop3-again : tie.Need-loop3-again Inv μ Inv μ Inv μ
+unfolding commands
 loop3-again c =
     let l = c .before .before .before .before .loop3 in
-    let p = c .before .before .before .before .before .before .before .before in
-    let e = p .before .rows .ensures in
-    let f = p .before .before .before .args .first in
-    let b = p .before .before .before .args .command in
-    let r = getD (p .before .rows .result) (l .i) noCommand in
-    let here : l .i < length commands = long (l .i) (omega arith) in
-    let misses : hit r f b ≡ false = other r f b (λ h. c .if3 .left (omega (arith, h, c .before .code4 .ensures, p .before .before .code .ensures))) in
-    (omega arith, sym (one-more commands noCommand (l .i) f b false here (rw e at misses)) ∙ l .inv .1)
+    let p = c .before .before .before .before .before .before .before .before .before in
+    let a = p .before .before .args in
+    passed (p .rows .result) (l .i) (a .first) (a .command) (p .rows .ensures) (omega arith) (l .inv)
+    (λ e. c .if3 .left (omega (arith, e, c .before .code4 .ensures, p .before .code .ensures)))
 
-returns-4 : tie.Need-returns-4 Inv-loop μ-loop Inv-loop2 μ-loop2 Inv-loop3 μ-loop3
+returns-4 : tie.Need-returns-4 Inv μ Inv μ Inv μ
 unfolding commands
-returns-4 c = sym (ended commands (c .before .loop3 .i) _ _ (omega arith)) ∙ c .before .loop3 .inv .1
+returns-4 c = sym (ended commands (c .before .loop3 .i) _ _ (omega arith)) ∙ c .before .loop3 .inv
 
 pub find-spec : {M : Type 1} → statement M
 find-spec =
     tie.close
     (tie.spec
-    Inv-loop
-    μ-loop
-    Inv-loop2
-    μ-loop2
-    Inv-loop3
-    μ-loop3
+    Inv
+    μ
+    Inv
+    μ
+    Inv
+    μ
     code-requires
     rows-requires
     loop-holds

@@ -1,5 +1,6 @@
 -- `effects::move_tape` meets its contract: each arm is its motion's own line of `transport`. A speed, read back from its bits, is itself.
 use borrow.Author.Needs.{needs}
+use borrow.Author.Tests.{eq-eqb, ne-eqb}
 use mir.Syntax.{w32}
 use mir.ValLaws.{toZ-ofZ}
 use Rattle.effects.specs.Effects.{transport}
@@ -39,6 +40,13 @@ enum-told c = search needs
 position-requires : tie.Need-position-requires
 position-requires c κs = search needs
 
+-- `Cue` with data that are no time
+returns : tie.Need-returns
+unfolding transport
+returns c =
+    let p = c .before .before in
+    rw (p .before .enum-told .given .1, ← p .position .ensures, ne-eqb _ 0 (c .if1 .taken))
+
 with-motion-requires : tie.Need-with-motion-requires
 with-motion-requires c κs = search needs
 
@@ -49,16 +57,16 @@ start-requires-4 : tie.Need-start-requires-4
 start-requires-4 c κs = search needs
 
 -- `Run`
-returns : tie.Need-returns
+returns-2 : tie.Need-returns-2
 unfolding transport
-returns c =
+returns-2 c =
     let m = c .before .before .motion .given in
     rw (m .1, c .start .ensures, toZ-ofZ w32 (m .0 .1 .0) (record { sfits = c .before .known-told .given .1 .0 .1 }))
 
 -- `Vary`
-returns-2 : tie.Need-returns-2
+returns-3 : tie.Need-returns-3
 unfolding transport
-returns-2 c =
+returns-3 c =
     let v = c .before in
     let f = v .before in
     rw (
@@ -70,19 +78,21 @@ returns-2 c =
     )
 
 -- `Step`
-returns-3 : tie.Need-returns-3
-unfolding transport
-returns-3 c = rw (c .before .before .before .motion3 .given .1, c .start3 .ensures, c .before .one-frame .ensures)
-
--- `Cue`
 returns-4 : tie.Need-returns-4
 unfolding transport
-returns-4 c = rw (c .before .before .enum-told .given .1, c .with-motion .ensures, c .before .position .ensures)
+returns-4 c = rw (c .before .before .before .motion3 .given .1, c .start3 .ensures, c .before .one-frame .ensures)
 
--- `Eject`
+-- `Cue`
 returns-5 : tie.Need-returns-5
 unfolding transport
-returns-5 c = rw (c .before .enum-told2 .given .1, c .start4 .ensures)
+returns-5 c =
+    let p = c .before .before .before in
+    rw (p .before .enum-told .given .1, c .with-motion .ensures, p .position .ensures, eq-eqb _ 0 (rw (p .position .ensures) at (c .before .if1 .left)))
+
+-- `Eject`
+returns-6 : tie.Need-returns-6
+unfolding transport
+returns-6 c = rw (c .before .enum-told2 .given .1, c .start4 .ensures)
 
 pub move-tape-spec : {M : Type 1} → statement M
 move-tape-spec =
@@ -99,11 +109,12 @@ move-tape-spec =
     start-requires-3
     enum-told
     position-requires
+    returns
     with-motion-requires
     enum-told-2
     start-requires-4
-    returns
     returns-2
     returns-3
     returns-4
-    returns-5)
+    returns-5
+    returns-6)

@@ -1,5 +1,6 @@
 -- `effects::perform` meets its contract: each arm is its effect's own line of the definition.
 use borrow.Author.Needs.{needs}
+use borrow.Author.Tests.{eq-eqb, ne-eqb}
 use Rattle.effects.specs.Effects.{perform}
 use Rattle.effects.proofs.perform.Statement.{statement}
 use Rattle.effects.proofs.perform.Tie as tie
@@ -33,6 +34,13 @@ enum-known-effect-5 c = search needs
 position-requires : tie.Need-position-requires
 position-requires c κs = search needs
 
+-- `Preset` with data that are no time
+returns-2 : tie.Need-returns-2
+unfolding perform
+returns-2 c =
+    let p = c .before .before in
+    rw (p .before .before .effect5 .given .1, ← p .position .ensures, ne-eqb _ 0 (c .if2 .taken))
+
 with-point-requires-2 : tie.Need-with-point-requires-2
 with-point-requires-2 c κs = search needs
 
@@ -58,41 +66,43 @@ with-point-requires-4 : tie.Need-with-point-requires-4
 with-point-requires-4 c κs = search needs
 
 -- `Local`
-returns-2 : tie.Need-returns-2
-unfolding perform
-returns-2 c = rw (c .before .effect .given .1)
-
--- `Standby`
 returns-3 : tie.Need-returns-3
 unfolding perform
-returns-3 c = rw (c .before .effect2 .given .1)
+returns-3 c = rw (c .before .effect .given .1)
 
--- `Transport`, cassette out
+-- `Standby`
 returns-4 : tie.Need-returns-4
 unfolding perform
-returns-4 c = rw (c .before .before .effect3 .given .1, c .if1 .left)
+returns-4 c = rw (c .before .effect2 .given .1)
 
--- `Take`
+-- `Transport`, cassette out
 returns-5 : tie.Need-returns-5
 unfolding perform
-returns-5 c = rw (c .before .before .effect4 .given .1, c .with-point .ensures)
+returns-5 c = rw (c .before .before .effect3 .given .1, c .if1 .left)
 
--- `Preset`
+-- `Take`
 returns-6 : tie.Need-returns-6
 unfolding perform
-returns-6 c = rw (c .before .before .before .effect5 .given .1, c .with-point2 .ensures, c .before .position .ensures)
+returns-6 c = rw (c .before .before .effect4 .given .1, c .with-point .ensures)
 
--- `Shift`
+-- `Preset`
 returns-7 : tie.Need-returns-7
 unfolding perform
 returns-7 c =
+    let p = c .before .before .before in
+    rw (p .before .before .effect5 .given .1, c .with-point2 .ensures, p .position .ensures, eq-eqb _ 0 (rw (p .position .ensures) at (c .before .if2 .left)))
+
+-- `Shift`
+returns-8 : tie.Need-returns-8
+unfolding perform
+returns-8 c =
     let p = c .before .before in
     rw (p .before .before .effect6 .given .1, c .with-point3 .ensures, c .before .one-frame .ensures, p .point .ensures)
 
 -- `Flag`
-returns-8 : tie.Need-returns-8
+returns-9 : tie.Need-returns-9
 unfolding perform
-returns-8 c = rw (c .before .before .before .effect7 .given .1, c .with-point4 .ensures, c .before .point2 .ensures)
+returns-9 c = rw (c .before .before .before .effect7 .given .1, c .with-point4 .ensures, c .before .point2 .ensures)
 
 pub perform-spec : {M : Type 1} → statement M
 perform-spec =
@@ -107,6 +117,7 @@ perform-spec =
     with-point-requires
     enum-known-effect-5
     position-requires
+    returns-2
     with-point-requires-2
     enum-known-effect-6
     point-requires
@@ -115,10 +126,10 @@ perform-spec =
     enum-known-effect-7
     point-requires-2
     with-point-requires-4
-    returns-2
     returns-3
     returns-4
     returns-5
     returns-6
     returns-7
-    returns-8)
+    returns-8
+    returns-9)

@@ -1,8 +1,10 @@
 -- `execute::execute` meets its contract.
 use mathlib.Core.Path.{_≡_, sym, ap, _∙_}
-use Prim.Native.Nat.{ℕ, _-_, _≤_}
+use mathlib.Core.Bool.{true}
+use Prim.Native.Nat.{ℕ, _-_, _≤_, _<_}
 use native.Mathlib.Omega.{arith}
 use borrow.Author.Tests.{lt-ltb, le-ltb}
+use lib.Dec.{ltb}
 use lib.ListN.{length, take, drop, getD}
 use Rattle.block.specs.Read.{readNo}
 use Rattle.block.proofs.Reading.{length-read, fields-read, fields-number, data-read}
@@ -13,10 +15,14 @@ use borrow.Author.Needs.{needs}
 use Rattle.execute.proofs.execute.Statement.{statement}
 use Rattle.execute.proofs.execute.Tie as tie
 
+-- under a limit of at most 18
+short : {n limit : ℕ} → n < limit → limit ≤ 18 → ltb n 18 ≡ true
+short {n} h k = lt-ltb n 18 (omega (arith, h, k))
+
 returns : tie.Need-returns
 unfolding executed executedOut
 returns c =
-    let e = lt-ltb _ _ (c .if1 .taken) in
+    let e = short (c .if1 .taken) (omega arith) in
     (rw e, rw e)
 
 fields-requires : tie.Need-fields-requires
@@ -31,11 +37,10 @@ same-length c = search needs
 returns-2 : tie.Need-returns-2
 unfolding executed executedOut
 returns-2 c =
-    let a = c .before .before .before .before .before .before .before .before .before .before .args in
-    let block = a .bytes .now in
     let f = c .before .before .before .before .before .before .fields in
-    let bad : readNo block ≡ 0 → ⊥ = λ e. c .before .before .before .before .if2 .taken (ap (λ h. h .no) (f .ensures) ∙ (fields-number block ∙ e)) in
-    rw (le-ltb _ _ (c .before .before .before .before .before .before .before .if1 .left)) (as-shown (a .out .now) (execute-bad (a .settings) block bad) (c .before .before .refuse .ensures))
+    rw (le-ltb _ 18 (c .before .before .before .before .before .before .before .if1 .left))
+    (as-shown _ (execute-bad _ _ (λ e. c .before .before .before .before .if2 .taken (ap (λ h. h .no) (f .ensures) ∙ (fields-number _ ∙ e))))
+    (c .before .before .refuse .ensures))
 
 -- past the second test the block reads
 reads : (c : tie.Else2) → readNo (c .before .before .before .before .before .before .args .bytes .now) ≡ 0

@@ -7,7 +7,7 @@ use native.Mathlib.Omega.{arith}
 use borrow.Author.Tests.{eq-eqb, ne-eqb}
 use lib.Bits.{bitAnd, bitOr, and-mask}
 use lib.Count.{ones}
-use Rattle.line.specs.Word.{parityWrong, stopBit}
+use Rattle.line.specs.Word.{dataBits, parityBit, parityWrong, stopBit}
 use Rattle.line.proofs.Parity.{ones-data-parity}
 use Rattle.line.proofs.flags_of.Statement.{statement}
 use Rattle.line.proofs.flags_of.Tie as tie
@@ -15,11 +15,17 @@ use Rattle.line.proofs.flags_of.Tie as tie
 stop-masked : (word : ℕ) → bitAnd (word / 1024) 1 ≡ stopBit word
 stop-masked word = and-mask (word / 1024) 1
 
+ones-masked : (word : ℕ) → ones (bitAnd (word / 2) 0x1FF) ≡ ones (dataBits word) + parityBit word
+ones-masked word = rw (and-mask (word / 2) 9) (ones-data-parity word)
+
 parity-flag : (c : tie.Joined1) → c .if1 .flags ≡ cond (parityWrong (c .before .args .word)) 0x10 0
 parity-flag c =
     let word = c .before .args .word in
-    rw (← ones-data-parity word, ← and-mask (word / 2) 9)
-    (⊎-elim (λ w. rw (eq-eqb _ _ (w .0 .taken)) (w .1)) (λ w. rw (ne-eqb _ _ (w .0 .left)) (w .1)) (c .if1 .came))
+    let counted = ones-masked word in
+    ⊎-elim
+    (λ w. rw (eq-eqb ((ones (dataBits word) + parityBit word) % 2) 0 (omega (arith, counted, w .0 .taken))) (w .1))
+    (λ w. rw (ne-eqb ((ones (dataBits word) + parityBit word) % 2) 0 (λ e. w .0 .left (omega (arith, counted, e)))) (w .1))
+    (c .if1 .came)
 
 framing-joined : (b : Bool) → bitOr (cond b 0x10 0) 0x40 ≡ cond b 0x10 0 + 0x40
 framing-joined true = refl

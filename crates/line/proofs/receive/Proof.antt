@@ -21,8 +21,8 @@ unfolding received
 returns c =
     let word = c .before .args .word in
     ⊎-elim
-    (λ w. simp (lt-ltb _ _ (w .taken)))
-    (λ w. simp (le-ltb _ _ (w .0 .left), ← start-masked word, w .1 .taken))
+    (λ w. simp (lt-ltb 0x7FF word (w .taken)))
+    (λ w. simp (le-ltb 0x7FF word (w .0 .left), ← start-masked word, w .1 .taken))
     (c .if1 .came)
 
 cast-t7 : tie.Need-cast-t7
@@ -36,7 +36,7 @@ unfolding received
 returns-2 c =
     let word = c .before .before .before .args .word in
     simp
-    (le-ltb _ _ (c .before .before .if1 .left), ← start-masked word, c .before .if2 .left, data-masked word, c .flags-of .ensures)
+    (le-ltb 0x7FF word (c .before .before .if1 .left), ← start-masked word, c .before .if2 .left, data-masked word, c .flags-of .ensures)
 
 pub receive-spec : {M : Type 1} → statement M
 receive-spec = tie.close (tie.spec returns cast-t7 flags-of-requires returns-2)

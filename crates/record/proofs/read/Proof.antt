@@ -5,8 +5,9 @@ use native.Mathlib.Omega.{arith}
 use borrow.Author.Needs.{needs}
 use lib.ListN.{length, drop, length-drop}
 use lib.Seq.{take-all}
+use Rattle.record.specs.declared.Entry.{Entry}
 use Rattle.record.specs.Bytes.{entryOf}
-use Rattle.record.proofs.Bytes.{entry-at, no-entry-at}
+use Rattle.record.proofs.Bytes.{entry-at, read-in, read-past}
 use Rattle.record.proofs.read.Statement.{statement}
 use Rattle.record.proofs.read.Tie as tie
 
@@ -30,12 +31,12 @@ returns c =
     let a = c .before .before .before .before .args in
     let b = a .bytes .now in
     let n = a .place * 12 in
-    c .first .ensures
-    ∙ ap entryOf (take-all (length b - n) (drop n b) (omega (arith, length-drop n b)))
-    ∙ sym (entry-at b (a .place) (omega arith))
+    let e = c .first .ensures ∙ ap entryOf (take-all (length b - n) (drop n b) (omega (arith, length-drop n b))) in
+    ap (λ (e : Entry). record { no = 0; entry = e }) (e ∙ sym (entry-at b (a .place) (omega arith)))
+    ∙ sym (read-in b (a .place) (omega arith))
 
 returns-2 : tie.Need-returns-2
-returns-2 c = let a = c .before .before .args in sym (no-entry-at (a .bytes .now) (a .place) (omega arith))
+returns-2 c = let a = c .before .before .args in sym (read-past (a .bytes .now) (a .place) (omega arith))
 
 pub read-spec : {M : Type 1} → statement M
 read-spec =

@@ -5,7 +5,7 @@ use native.Mathlib.Omega.{arith}
 use mathlib.Core.Path.{sym}
 use borrow.Author.Tests.{lt-ltb}
 use borrow.Author.Needs.{needs}
-use Rattle.report.proofs.Tests.{same-test}
+use Rattle.text.proofs.Tests.{same-test}
 use Rattle.report.proofs.short.Statement.{statement}
 use Rattle.report.proofs.short.Tie as tie
 

@@ -3,9 +3,9 @@ use mathlib.Core.Path.{_≡_, sym, _∙_}
 use native.Mathlib.Omega.{arith}
 use borrow.Author.Tests.{ltb-false}
 use lib.ListN.{length}
+use Rattle.text.proofs.Putting.{whole}
 use Rattle.report.specs.Text.{writtenIn, writtenOut}
 use Rattle.report.specs.Verdict.{textOf}
-use Rattle.report.proofs.Putting.{whole}
 use borrow.Author.Needs.{needs}
 use Rattle.report.proofs.text.Statement.{statement}
 use Rattle.report.proofs.text.Tie as tie

@@ -1,13 +1,13 @@
 -- `timecode::time` meets its contract: one test, and each byte is what `bcd_of` gives.
 use borrow.Author.Tests.{lt-ltb, le-ltb}
-use Rattle.timecode.specs.Time.{writeTime}
+use Rattle.timecode.specs.Time.{day, writeTime}
 use borrow.Author.Needs.{needs}
 use Rattle.timecode.proofs.time.Statement.{statement}
 use Rattle.timecode.proofs.time.Tie as tie
 
 returns : tie.Need-returns
 unfolding writeTime
-returns c = simp (le-ltb _ _ (c .if1 .taken))
+returns c = simp (le-ltb _ day (c .if1 .taken))
 
 cast-bcd-of : tie.Need-cast-bcd-of
 cast-bcd-of c = search needs
@@ -38,7 +38,7 @@ unfolding writeTime
 returns-2 c =
     let f = c .before .before .before in
     simp (
-      lt-ltb _ _ (f .before .if1 .left),
+      lt-ltb _ day (f .before .if1 .left),
       f .bcd-of .ensures,
       c .before .before .bcd-of2 .ensures,
       c .before .bcd-of3 .ensures,

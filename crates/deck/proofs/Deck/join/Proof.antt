@@ -12,24 +12,35 @@ use Rattle.deck.proofs.Deck.join.Tie as tie
 refusal-requires : tie.Need-refusal-requires
 refusal-requires c κs = search needs
 
+unjoined-requires : tie.Need-unjoined-requires
+unjoined-requires c κs = search needs
+
 returns : tie.Need-returns
 returns c =
-    let n = c .before in
+    let n = c .before .before in
     let a = n .before .args in
-    sym (joining-is (a .self) (a .time) (a .content) false
-    (joins-refused (a .self) (a .time) (a .content) (n .refusal .result) (n .refusal .ensures) (c .if1 .taken)))
+    let f = n .refusal .ensures in
+    c .unjoined .ensures
+    ∙ sym (joining-is (a .self) (a .time) (a .content) (n .refusal .result) false f
+    (joins-refused (a .self) (a .time) (a .content) (n .refusal .result) f (c .before .if1 .taken)))
 
 grows-requires : tie.Need-grows-requires
 grows-requires c κs = search needs
 
+unjoined-requires-2 : tie.Need-unjoined-requires-2
+unjoined-requires-2 c κs = search needs
+
 returns-2 : tie.Need-returns-2
 returns-2 c =
-    let g = c .before in
+    let g = c .before .before in
+    let z = g .before .if1 .left in
     let n = g .before .before in
     let a = n .before .args in
-    sym (joining-is (a .self) (a .time) (a .content) false
-    (joins-taken (a .self) (a .time) (a .content) (n .refusal .result) (n .refusal .ensures) (g .before .if1 .left) false
-    (sym (not-true _ (c .if2 .taken)) ∙ g .grows .ensures (a .content))))
+    let f = n .refusal .ensures in
+    c .unjoined2 .ensures
+    ∙ sym (joining-is (a .self) (a .time) (a .content) 0 false (sym z ∙ f)
+    (joins-taken (a .self) (a .time) (a .content) (n .refusal .result) f z false
+    (sym (not-true _ (c .before .if2 .taken)) ∙ g .grows .ensures (a .content))))
 
 put-requires : tie.Need-put-requires
 put-requires c κs = search needs
@@ -49,14 +60,16 @@ returns-3 c =
     let p = c .before in
     let o = p .before .before in
     let g = o .before in
+    let z = g .before .if1 .left in
     let n = g .before .before in
     let a = n .before .args in
+    let f = n .refusal .ensures in
     rw (p .put .ensures)
-    (sym (joining-is (a .self) (a .time) (a .content) true
-    (joins-taken (a .self) (a .time) (a .content) (n .refusal .result) (n .refusal .ensures) (g .before .if1 .left) true
+    (sym (joining-is (a .self) (a .time) (a .content) 0 true (sym z ∙ f)
+    (joins-taken (a .self) (a .time) (a .content) (n .refusal .result) f z true
     (sym (not-false _ (o .if2 .left)) ∙ g .grows .ensures (a .content)))))
 
 pub join-spec : {M : Type 1} → statement M
 join-spec =
     tie.close
-    (tie.spec refusal-requires returns grows-requires returns-2 put-requires add-self returns-3)
+    (tie.spec refusal-requires unjoined-requires returns grows-requires unjoined-requires-2 returns-2 put-requires add-self returns-3)

@@ -44,7 +44,7 @@ returns-2 c =
     let n = k .first .result in
     let j = c .before .before .before .before .before .before .before in
     let code : j .if3 .code ≡ timeCode n =
-    ⊎-elim (λ w. rw (eq-eqb _ _ (w .0 .taken)) (w .1)) (λ w. rw (ne-eqb _ _ (w .0 .left)) (w .1)) (j .if3 .came) in
+    ⊎-elim (λ w. rw (eq-eqb n 2 (w .0 .taken)) (w .1)) (λ w. rw (ne-eqb n 2 (w .0 .left)) (w .1)) (j .if3 .came) in
     as-shown (a .out .now)
     (time-read (a .s) (a .«data» .now) n (k .first .ensures) (j .if3 .code) (j .before .time .result)
     (c .before .before .before .before .before .before .before .before .before .before .if1 .left)

@@ -10,7 +10,7 @@ none-requires : tie.Need-none-requires
 none-requires c κs = search needs
 
 returns : tie.Need-returns
-returns c = rw (c .before .power-on .ensures)
+returns c = rw (c .before .power-on .ensures, c .none .ensures)
 
 pub start-spec : {M : Type 1} → statement M
 start-spec = tie.close (tie.spec power-on-requires none-requires returns)

@@ -5,20 +5,22 @@ use native.Mathlib.Omega.{arith}
 use borrow.Author.Tests.{eq-eqb, ne-eqb}
 use lib.ListN.{length, take, drop, length-drop}
 use lib.Seq.{take-all}
+use Rattle.text.proofs.Putting.{joined}
+use Rattle.text.proofs.Lengths.{at-few}
+use Rattle.text.proofs.Writing.{within}
 use Rattle.report.specs.Answered.{callLines}
-use Rattle.report.proofs.Putting.{joined}
 use borrow.Author.Needs.{needs}
 use Rattle.report.proofs.entries.put_answer.Statement.{statement}
 use Rattle.report.proofs.entries.put_answer.Tie as tie
 
-slice-aggregate-put-at : tie.Need-slice-aggregate-put-at
-slice-aggregate-put-at c = search needs
+slice-aggregate-at-line : tie.Need-slice-aggregate-at-line
+slice-aggregate-at-line c = search needs
 
-cast-put-at : tie.Need-cast-put-at
-cast-put-at c = search needs
+cast-at-line : tie.Need-cast-at-line
+cast-at-line c = search needs
 
-put-at-requires : tie.Need-put-at-requires
-put-at-requires c κs = search needs
+at-line-requires : tie.Need-at-line-requires
+at-line-requires c κs = search needs
 
 same-length : tie.Need-same-length
 same-length c = search needs
@@ -26,7 +28,7 @@ same-length c = search needs
 returns : tie.Need-returns
 unfolding callLines
 returns c =
-    let p = c .before .before .put-at .ensures in
+    let p = within (c .before .before .at-line .ensures) (at-few _ _ _) (omega arith) in
     let refuses = c .before .before .before .before .before .before .if1 .taken in
     (rw (ne-eqb _ _ refuses) (p .0), omega (arith, p .1))
 
@@ -65,9 +67,9 @@ pub put-answer-spec : {M : Type 1} → statement M
 put-answer-spec =
     tie.close
     (tie.spec
-    slice-aggregate-put-at
-    cast-put-at
-    put-at-requires
+    slice-aggregate-at-line
+    cast-at-line
+    at-line-requires
     same-length
     returns
     put-sent-requires

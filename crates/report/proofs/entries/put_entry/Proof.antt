@@ -2,6 +2,8 @@
 use mathlib.Core.Path.{refl, sym, _∙_}
 use native.Mathlib.Omega.{arith}
 use borrow.Author.Tests.{not-true, not-false}
+use Rattle.text.proofs.Lengths.{line-few}
+use Rattle.text.proofs.Writing.{within}
 use Rattle.report.specs.Answered.{standing}
 use Rattle.report.proofs.Answering.{entry-lines, entry-stands, entry-small, malformed-lines, malformed-stands}
 use borrow.Author.Needs.{needs}
@@ -11,11 +13,11 @@ use Rattle.report.proofs.entries.put_entry.Tie as tie
 meant-requires : tie.Need-meant-requires
 meant-requires c κs = search needs
 
-slice-aggregate-put-line : tie.Need-slice-aggregate-put-line
-slice-aggregate-put-line c = search needs
+slice-aggregate-line : tie.Need-slice-aggregate-line
+slice-aggregate-line c = search needs
 
-put-line-requires : tie.Need-put-line-requires
-put-line-requires c κs = search needs
+line-requires : tie.Need-line-requires
+line-requires c κs = search needs
 
 same-length : tie.Need-same-length
 same-length c = search needs
@@ -24,7 +26,7 @@ returns : tie.Need-returns
 returns c =
     let i = c .before .before .before .before .before in
     let a = i .before .before .before .args in
-    let p = c .before .before .put-line .ensures in
+    let p = within (c .before .before .line .ensures) (line-few _ _) (omega arith) in
     let m = sym (i .before .meant .ensures) ∙ not-true _ (i .if1 .taken) in (
       rw (malformed-lines (standing (a .deck)) (a .e) m (a .k)) (p .0),
       sym (malformed-stands (standing (a .deck)) (a .e) m),
@@ -35,7 +37,7 @@ slice-aggregate-hand : tie.Need-slice-aggregate-hand
 slice-aggregate-hand c = search needs
 
 hand-requires : tie.Need-hand-requires
-hand-requires c κs = sym (c .before .before .meant .ensures) ∙ not-false _ (c .before .if1 .left)
+hand-requires c κs = search needs
 
 slice-aggregate-put-answer : tie.Need-slice-aggregate-put-answer
 slice-aggregate-put-answer c = search needs
@@ -69,8 +71,8 @@ put-entry-spec =
     tie.close
     (tie.spec
     meant-requires
-    slice-aggregate-put-line
-    put-line-requires
+    slice-aggregate-line
+    line-requires
     same-length
     returns
     slice-aggregate-hand

@@ -1,7 +1,9 @@
 -- `put_record` meets its contract: the lines of the entries that the loop has passed are put.
 use Prim.Native.Nat.{_-_, _/_}
+use mathlib.Core.Path.{ap}
 use lib.ListN.{length}
 use borrow.Author.Needs.{needs}
+use Rattle.record.specs.declared.Fetched.{Fetched}
 use Rattle.report.proofs.Passed.{Inv, at-first, passed, at-last}
 use Rattle.report.proofs.entries.put_record.Statement.{statement}
 use Rattle.report.proofs.entries.put_record.Tie as tie
@@ -35,11 +37,11 @@ loop-less c = search needs
 loop-again : tie.Need-loop-again Inv-loop μ-loop
 loop-again c =
     let p = c .before .before .before .put-entry in
-    let r = c .before .before .before .before in
-    let l = r .before .before .before in
+    let r = c .before .before .before .before .before in
+    let l = r .before .before in
     let a = l .before .before .before .before .args in
     passed (a .bytes .now) (a .out .now) (l .loop .out) (l .loop .deck) (l .loop .end) (l .loop .i) (l .loop .inv) (search needs)
-    (r .read .result) (r .read .ensures) (p .last .0) (p .result .deck) (p .result .end)
+    (r .read .result .entry) (ap (λ (x : Fetched). x .entry) (r .read .ensures)) (p .last .0) (p .result .deck) (p .result .end)
     (p .ensures .0) (p .ensures .1) (p .ensures .2) (p .kept .0)
 
 put-settings-requires : tie.Need-put-settings-requires Inv-loop μ-loop

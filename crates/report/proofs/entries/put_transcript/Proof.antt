@@ -1,6 +1,9 @@
 -- `put_transcript` meets its contract.
 use mathlib.Core.Path.{sym, _∙_}
+use native.Mathlib.Omega.{arith}
 use borrow.Author.Tests.{not-true, not-false}
+use Rattle.text.proofs.Lengths.{line-few}
+use Rattle.text.proofs.Writing.{within}
 use Rattle.report.specs.Transcript.{transcript}
 use borrow.Author.Needs.{needs}
 use Rattle.report.proofs.entries.put_transcript.Statement.{statement}
@@ -9,11 +12,11 @@ use Rattle.report.proofs.entries.put_transcript.Tie as tie
 is-record-requires : tie.Need-is-record-requires
 is-record-requires c κs = search needs
 
-slice-aggregate-put-line : tie.Need-slice-aggregate-put-line
-slice-aggregate-put-line c = search needs
+slice-aggregate-line : tie.Need-slice-aggregate-line
+slice-aggregate-line c = search needs
 
-put-line-requires : tie.Need-put-line-requires
-put-line-requires c κs = search needs
+line-requires : tie.Need-line-requires
+line-requires c κs = search needs
 
 same-length : tie.Need-same-length
 same-length c = search needs
@@ -23,7 +26,7 @@ unfolding transcript
 returns c =
     let i = c .before .before .before .before .before in
     let e = sym (i .before .is-record .ensures) ∙ not-true _ (i .if1 .taken) in
-    rw e (c .before .before .put-line .ensures .0)
+    rw e (within (c .before .before .line .ensures) (line-few _ _) (omega arith) .0)
 
 put-record-requires : tie.Need-put-record-requires
 put-record-requires c κs = search needs
@@ -43,8 +46,8 @@ put-transcript-spec =
     tie.close
     (tie.spec
     is-record-requires
-    slice-aggregate-put-line
-    put-line-requires
+    slice-aggregate-line
+    line-requires
     same-length
     returns
     put-record-requires

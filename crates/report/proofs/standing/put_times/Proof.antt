@@ -1,7 +1,7 @@
 -- `standing::put_times` meets its contract: three lines, one behind the other.
 use native.Mathlib.Omega.{arith}
+use Rattle.text.proofs.Putting.{joined}
 use Rattle.report.specs.Transcript.{timeLines}
-use Rattle.report.proofs.Putting.{joined}
 use borrow.Author.Needs.{needs}
 use Rattle.report.proofs.standing.put_times.Statement.{statement}
 use Rattle.report.proofs.standing.put_times.Tie as tie

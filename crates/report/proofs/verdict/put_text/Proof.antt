@@ -1,19 +1,22 @@
 -- `verdict::put_text` meets its contract.
+use native.Mathlib.Omega.{arith}
 use borrow.Author.Tests.{eq-eqb, ne-eqb}
+use Rattle.text.proofs.Putting.{joined}
+use Rattle.text.proofs.Lengths.{line-few}
+use Rattle.text.proofs.Writing.{within}
 use Rattle.report.specs.Verdict.{textOf}
-use Rattle.report.proofs.Putting.{joined}
 use borrow.Author.Needs.{needs}
 use Rattle.report.proofs.verdict.put_text.Statement.{statement}
 use Rattle.report.proofs.verdict.put_text.Tie as tie
 
-slice-aggregate-put-line : tie.Need-slice-aggregate-put-line
-slice-aggregate-put-line c = search needs
+slice-aggregate-line : tie.Need-slice-aggregate-line
+slice-aggregate-line c = search needs
 
-cast-put-line : tie.Need-cast-put-line
-cast-put-line c = search needs
+cast-line : tie.Need-cast-line
+cast-line c = search needs
 
-put-line-requires : tie.Need-put-line-requires
-put-line-requires c κs = search needs
+line-requires : tie.Need-line-requires
+line-requires c κs = search needs
 
 same-length : tie.Need-same-length
 same-length c = search needs
@@ -22,7 +25,7 @@ returns : tie.Need-returns
 unfolding textOf
 returns c =
     let taken = c .before .before .before .before .before .before .if1 .taken in
-    rw (ne-eqb _ _ taken) (c .before .before .put-line .ensures .0)
+    rw (ne-eqb _ _ taken) (within (c .before .before .line .ensures) (line-few _ _) (omega arith) .0)
 
 put-verdict-requires : tie.Need-put-verdict-requires
 put-verdict-requires c κs = search needs
@@ -44,9 +47,9 @@ pub put-text-spec : {M : Type 1} → statement M
 put-text-spec =
     tie.close
     (tie.spec
-    slice-aggregate-put-line
-    cast-put-line
-    put-line-requires
+    slice-aggregate-line
+    cast-line
+    line-requires
     same-length
     returns
     put-verdict-requires

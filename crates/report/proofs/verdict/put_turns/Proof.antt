@@ -4,9 +4,9 @@ use mathlib.Core.Path.{_≡_, refl, _∙_}
 use native.Mathlib.Omega.{arith}
 use lib.ListN.{length, take}
 use lib.Seq.{take-all}
+use Rattle.text.specs.Puts.{Puts}
+use Rattle.text.proofs.Putting.{none, joined}
 use Rattle.report.specs.Verdict.{turnLines}
-use Rattle.report.specs.Puts.{Puts}
-use Rattle.report.proofs.Putting.{none, joined}
 use Rattle.report.proofs.Lines.{turns-more}
 use borrow.Author.Needs.{needs}
 use Rattle.report.proofs.verdict.put_turns.Statement.{statement}

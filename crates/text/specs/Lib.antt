@@ -1,0 +1,4 @@
+-- What the contracts of `text` mean.
+pub mod Text
+pub mod Writes
+pub mod Puts
