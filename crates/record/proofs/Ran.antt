@@ -87,7 +87,7 @@ ShutRun es =
 shut-step : (k fl c tm : ℕ) (es : List Entry) → ShutRun es → ShutRun (entry k fl c tm ∷ es)
 unfolding ofKind
 shut-step zero fl c tm es ih l f s now lat t₀ t left r o y p a q =
-    ran-cons (look-shut (deck [] l f s) tm refl) (acted-dropped (deck [] l f s) tm c fl (a .0)) (rw (lt-leb f tm (a .0)))
+    ran-cons (look-shut (deck [] l f s) tm refl) (acted-dropped (deck [] l f s) tm c fl (a .0)) (lt-leb f tm (a .0))
     (λ z v. record {
       wellFormed = v;
       ordered = o .0;

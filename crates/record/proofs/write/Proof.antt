@@ -1,7 +1,10 @@
 -- `record::write` meets its contract: the tests of the code are those of the definition, and past them each field is put.
-use mathlib.Core.Path.{_∙_}
+use Prim.Native.Nat.{ℕ, _≤_, _<_}
+use mathlib.Core.Path.{_≡_, _∙_}
+use mathlib.Core.Bool.{true, false}
 use native.Mathlib.Omega.{arith}
 use borrow.Author.Tests.{lt-ltb, le-ltb}
+use lib.Dec.{ltb}
 use lib.ListN.{length-set}
 use borrow.Author.Needs.{needs}
 use Rattle.record.specs.Bytes.{writeNo, written, writtenOut}
@@ -9,14 +12,21 @@ use Rattle.record.proofs.Bytes.{put-entry}
 use Rattle.record.proofs.write.Statement.{statement}
 use Rattle.record.proofs.write.Tie as tie
 
+-- the room, by a limit that is the definition's
+short : {n limit : ℕ} → n < limit → limit ≤ 12 → ltb n 12 ≡ true
+short {n} h k = lt-ltb n 12 (omega (arith, h, k))
+
+enough : {n limit : ℕ} → limit ≤ n → 12 ≤ limit → ltb n 12 ≡ false
+enough {n} h k = le-ltb n 12 (omega (arith, h, k))
+
 returns : tie.Need-returns
 unfolding writeNo written writtenOut
-returns c = let e = lt-ltb _ _ (c .if1 .taken) in (simp e, simp e)
+returns c = let e = short (c .if1 .taken) (omega arith) in (simp e, simp e)
 
 returns-2 : tie.Need-returns-2
 unfolding writeNo written writtenOut
 returns-2 c =
-    let e = le-ltb _ _ (c .before .before .if1 .left) in
+    let e = enough (c .before .before .if1 .left) (omega arith) in
     let f = lt-ltb _ _ (c .if2 .taken) in
     (simp (e, f), simp (e, f))
 
@@ -63,7 +73,7 @@ returns-3 c =
     let f₁ = c .before .before .before .before .before .before .fill in
     let k = c .before .before .before .before .before .before .before .before .before in
     let a = k .before .before .before .before .args in
-    let e = le-ltb _ _ (k .before .before .if1 .left) in
+    let e = enough (k .before .before .if1 .left) (omega arith) in
     let f = le-ltb _ _ (k .if2 .left) in
     (simp (e, f), simp (e, f) (put-entry (a .entry) _ _ (a .out .now) (omega arith) (f₁ .ensures) (f₂ .ensures)))
 
