@@ -1,48 +1,89 @@
--- A byte more in the open block.
-use Prim.Native.Nat.{ℕ, _+_, _%_, _≤_, _<_, min}
-use mathlib.Core.Path.{_≡_, refl, _∙_}
+-- The open block as the code keeps it, and a byte more in it.
+use Prim.Native.Nat.{ℕ, zero, suc, _+_, _-_, _%_, _≤_, _<_, min}
+use mathlib.Core.Bool.{true, cond}
+use mathlib.Core.Logic.{_⊎_, ⊎-elim}
+use mathlib.Core.Path.{_≡_, refl, sym, ap, _∙_}
 use mathlib.Core.List.{List, [], _∷_, _++_}
-use native.Mathlib.Nat.{min-eq-left}
+use native.Mathlib.Decide.{decLe}
 use native.Mathlib.Omega.{arith}
-use lib.ListN.{length, take, getD}
-use lib.Seq.{length-take-le, getD-take}
-use Rattle.packed.specs.Packed.{unpacked}
-use Rattle.execute.specs.Execute.{execute}
+use borrow.Author.Tests.{ne-eqb}
+use lib.Dec.{eqb}
+use lib.ListN.{length}
+use Rattle.packed.specs.declared.Tail.{Tail}
+use Rattle.packed.specs.Tail.{recent, kept, latest}
+use Rattle.packed.proofs.Tails.{length-latest, latest-most, latest-more}
+use Rattle.execute.specs.Execute.{blockIn, execute}
 use Rattle.deck.specs.declared.Deck.{Deck as Held}
-use Rattle.deck.specs.Line.{deck, silently, size, replied, taken}
-use Rattle.deck.specs.Calls.{view}
+use Rattle.deck.specs.Line.{deck, silently, isOpen, size, replied, taken}
+use Rattle.deck.specs.Calls.{openBlock, view}
+use Rattle.deck.specs.Joins.{grown}
 use Rattle.deck.proofs.Steps.{taken-full, taken-more}
+use Rattle.deck.proofs.Cases.{length-more}
 
-pub sized : (block : List ℕ) → 0 < length block → size block ≡ getD block 0 0 % 16 + 3
-sized [] h = absurd (omega arith)
-sized (b ∷ block) h = refl
+-- ---- the bytes that count
 
--- the front of an array has the array's first byte, so that its size is known from the array
-front-size : (xs : List ℕ) (n : ℕ) → n < length xs → size (take (n + 1) xs) ≡ getD xs 0 0 % 16 + 3
-front-size xs n h =
-    sized (take (n + 1) xs) (omega (arith, length-take-le (n + 1) xs (omega arith))) ∙ rw (getD-take (n + 1) xs 0 0 (omega arith))
+-- at most 17
+pub length-open : (n first : ℕ) (t : Tail) → length (openBlock n first t) ≡ min n 17
+length-open zero first t = refl
+length-open (suc n) first t = by (decLe n 16)
+  where
+    by : Dec (n ≤ 16) → length (openBlock (suc n) first t) ≡ min (suc n) 17
+    by (yes h) = omega (arith, length-latest n t h)
+    by (no h) = rw (latest-most n t (omega arith)) (omega (arith, length-latest 16 t (omega arith)))
 
--- a clean byte `b` at `t`, which the code puts behind the bytes that count
-module _ (d : Held) (xs : List ℕ) (n b t : ℕ) (long : length xs ≡ 24) (kept : n ≡ min (d .held) 17)
-    (more : take (n + 1) xs ≡ take n (unpacked (d .block)) ++ b ∷ []) where
-  within : n < length xs
-  within = omega arith
+-- a block is open, unless no byte is held
+pub opened : (n first : ℕ) (t : Tail) → (n ≡ 0 → ⊥) → isOpen (openBlock n first t) ≡ true
+opened zero first t h = absurd (h refl)
+opened (suc n) first t h = refl
 
-  grown : view d .block ++ b ∷ [] ≡ take (n + 1) xs
-  grown = rw (← kept, more)
+-- ---- a byte more
 
-  grown-length : length (take (n + 1) xs) ≡ n + 1
-  grown-length = length-take-le (n + 1) xs (omega (arith, within))
+-- the block in parts, as it is handed over
+pub in-parts : (n first b : ℕ) (t : Tail) → 1 ≤ n → blockIn (first % 256) (n - 1) t b ≡ openBlock n first t ++ b ∷ []
+in-parts zero first b t h = absurd (omega arith)
+in-parts (suc n) first b t h = let e : suc n - 1 ≡ n = omega arith in rw e
 
-  pub stays-open : n + 1 < getD xs 0 0 % 16 + 3
-      → taken (view d) (view d .block ++ b ∷ []) t ≡ silently (deck (take (min (n + 1) 17) xs) t (d .free) (d .settings))
-  stays-open h =
-      let e = front-size xs n within in
-      let f : min (n + 1) 17 ≡ n + 1 = min-eq-left (omega arith) in
-      rw (grown, f) (taken-more (view d) (take (n + 1) xs) t (omega (arith, grown-length)))
+-- the size is known from the first byte
+pub sized : (n first b : ℕ) (t : Tail) → (n ≡ 0 → ⊥) → size (openBlock n first t ++ b ∷ []) ≡ first % 16 + 3
+sized zero first b t h = absurd (h refl)
+sized (suc n) first b t h = omega arith
 
-  pub gets-full : getD xs 0 0 % 16 + 3 ≤ n + 1
-      → taken (view d) (view d .block ++ b ∷ []) t ≡ replied (view d) t (execute (d .settings) (take (n + 1) xs))
-  gets-full h =
-      let e = front-size xs n within in
-      rw grown (taken-full (view d) (take (n + 1) xs) t (omega (arith, grown-length)))
+-- the byte that comes is the first, or the latest
+pub first-block : (b : ℕ) (t : Tail) → b < 256 → openBlock 1 b t ≡ b ∷ []
+unfolding latest
+first-block b t h = let e : b % 256 ≡ b = omega arith in rw e
+
+pub one-more : (n first b : ℕ) (t : Tail) → b < 256 → n ≤ 16
+    → openBlock (n + 1) (cond (eqb n 0) b first) (cond (eqb n 0) (kept []) (kept (b ∷ recent t))) ≡ openBlock n first t ++ b ∷ []
+one-more zero first b t h k = first-block b (kept []) h
+one-more (suc n) first b t h k =
+    let e : suc n + 1 ≡ suc (suc n) = omega arith in
+    rw (e, ne-eqb (suc n) 0 (λ z. omega arith), latest-more n t b h (omega arith))
+
+length-behind : (n first b : ℕ) (t : Tail) → length (openBlock n first t ++ b ∷ []) ≡ suc (min n 17)
+length-behind n first b t = length-more (openBlock n first t) b ∙ ap suc (length-open n first t)
+
+-- with fewer bytes than the first asks for, or none, it does not fill the block
+below-size : (n first b : ℕ) (t : Tail) → (n ≡ 0) ⊎ (n ≤ first % 16 + 1)
+    → length (openBlock n first t ++ b ∷ []) < size (openBlock n first t ++ b ∷ [])
+below-size zero first b t r = omega arith
+below-size (suc n) first b t r =
+    let s = sized (suc n) first b t (λ z. omega arith) in
+    ⊎-elim (λ z. absurd (omega arith)) (λ z. omega (arith, length-behind (suc n) first b t, s)) r
+
+module _ (d : Held) (t b : ℕ) where
+  pub view-grown : b < 256 → d .held ≤ 16 → view (grown d t b) ≡ deck (view d .block ++ b ∷ []) t (d .free) (d .settings)
+  view-grown h k =
+      ap (λ (o : List ℕ). deck o t (d .free) (d .settings)) (one-more (d .held) (d .first) b (d .tail) h k)
+
+  pub stays-open : b < 256 → (d .held ≡ 0) ⊎ (d .held ≤ d .first % 16 + 1)
+      → taken (view d) (view d .block ++ b ∷ []) t ≡ silently (view (grown d t b))
+  stays-open h r =
+      taken-more (view d) (view d .block ++ b ∷ []) t (below-size (d .held) (d .first) b (d .tail) r)
+      ∙ ap silently (sym (view-grown h (⊎-elim (λ z. omega arith) (λ z. omega arith) r)))
+
+  pub gets-full : (d .held ≡ 0 → ⊥) → d .first % 16 + 1 < d .held
+      → taken (view d) (view d .block ++ b ∷ []) t ≡ replied (view d) t (execute (d .settings) (view d .block ++ b ∷ []))
+  gets-full n h =
+      let l = length-behind (d .held) (d .first) b (d .tail) in
+      taken-full (view d) (view d .block ++ b ∷ []) t (omega (arith, l, sized (d .held) (d .first) b (d .tail) n))

@@ -1,22 +1,13 @@
 -- Time-out, as the code tests it.
-use Prim.Native.Nat.{ℕ, zero, suc, _+_, _-_, _<_, min}
+use Prim.Native.Nat.{ℕ, _+_, _-_, _<_}
 use mathlib.Core.Bool.{Bool, true, false, _&&_}
 use mathlib.Core.Path.{_≡_, refl, sym, _∙_}
-use mathlib.Core.List.{List, [], _∷_}
 use native.Mathlib.Decide.{decLt}
-use native.Mathlib.Nat.{suc-min-suc}
 use native.Mathlib.Omega.{arith}
 use borrow.Author.Tests.{lt-ltb, le-ltb, ltb-true}
 use lib.Dec.{ltb}
-use lib.ListN.{length, take}
 use Rattle.execute.specs.Replies.{timeOut}
 use Rattle.deck.specs.Line.{Deck, Answer, isOpen, timedOut, voided}
-
--- the first bytes of an array are an open block, unless they are none
-pub opened : (n : ℕ) (block : List ℕ) → (n ≡ 0 → ⊥) → 0 < length block → isOpen (take (min n 17) block) ≡ true
-opened zero block h l = absurd (h refl)
-opened (suc n) [] h l = absurd (omega arith)
-opened (suc n) (b ∷ block) h l = rw (suc-min-suc n 16)
 
 exceeds : (t last gap : ℕ) → Dec (last + gap < t) → ltb gap (t - last) ≡ ltb (last + gap) t
 exceeds t last gap (yes h) = lt-ltb gap (t - last) (omega arith) ∙ sym (lt-ltb (last + gap) t h)

@@ -19,3 +19,4 @@ pub mod Output
 pub mod Seen
 pub mod Numbers
 pub mod Joining
+pub mod Filling

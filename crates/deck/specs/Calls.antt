@@ -2,10 +2,11 @@
 use mathlib.Core.Bool.{Bool, cond, not, _&&_}
 use mathlib.Core.List.{List, [], _∷_, _++_}
 use mathlib.Core.Path.{_≡_}
-use Prim.Native.Nat.{ℕ, _%_, _≤_, min}
+use Prim.Native.Nat.{ℕ, zero, suc, _%_, _≤_}
 use lib.Dec.{eqb, leb, ltb}
-use lib.ListN.{length, take, drop}
-use Rattle.packed.specs.Packed.{packed, unpacked}
+use lib.ListN.{length, getD, drop}
+use Rattle.packed.specs.declared.Tail.{Tail}
+use Rattle.packed.specs.Tail.{kept, backward, latest}
 use Rattle.settings.specs.Settings.{powerOn}
 use Rattle.timecode.specs.Time.{day}
 use Rattle.deck.specs.declared.Deck.{Deck as Held}
@@ -88,19 +89,24 @@ call clock d e out =
 
 -- ---- the code's deck and answer
 
--- The code keeps the open block packed in numbers, with a count. A deck that no event could have made is a value too: at most
--- 17 bytes count as an open block.
+-- The code keeps the first byte of the open block, and those behind it in a tail, with the count of all. A deck that no event
+-- could have made is a value too: at most 17 bytes count as an open block.
+abbrev pub openBlock : (held first : ℕ) → Tail → List ℕ
+openBlock zero first t = []
+openBlock (suc n) first t = first % 256 ∷ latest n t
+
 abbrev pub view : Held → Deck
-view d = deck (take (min (d .held) 17) (unpacked (d .block))) (d .last) (d .free) (d .settings)
+view d = deck (openBlock (d .held) (d .first) (d .tail)) (d .last) (d .free) (d .settings)
 
 -- the deck at power-on; "The clock starts at 0."
 abbrev pub newDeck : Held
-newDeck = record { clock = 0; last = 0; free = 0; held = 0; block = packed []; settings = powerOn }
+newDeck = record { clock = 0; last = 0; free = 0; held = 0; first = 0; tail = kept []; settings = powerOn }
 
--- a deck as events make it: at most 17 bytes are held, and the numbers have nothing but zeros past them
+-- a deck as events make it: at most 17 bytes are held, and the numbers have these and nothing else
 pub record Made (d : Held) : Type 0 where
   pub few : d .held ≤ 17
-  pub zeros : d .block ≡ packed (view d .block)
+  pub head : d .first ≡ getD (view d .block) 0 0
+  pub rest : d .tail ≡ kept (backward (drop 1 (view d .block)))
 
 -- what a caller sees of an answer and the output
 abbrev pub seen : Returned → List ℕ → Call

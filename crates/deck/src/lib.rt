@@ -1,12 +1,13 @@
 // The deck: the four events, with time-out and quiet.
-use packed::Packed;
+use packed::Tail;
 use settings::Settings;
 ghost use mathlib.Core.Path.{_≡_};
 ghost use mathlib.Core.Bool.{false};
 ghost use Prim.Native.Nat.{ℕ};
+ghost use lib.ListN.{length};
 ghost use Rattle.deck.specs.Line.{byte, look, position, cassette};
 ghost use Rattle.deck.specs.Calls.{Answers, view, newDeck};
-ghost use Rattle.deck.specs.Joins.{grows, joining};
+ghost use Rattle.deck.specs.Joins.{grows, fills, joining, OnlyIf, filling, striking};
 
 mod line;
 mod number;
@@ -14,13 +15,14 @@ mod number;
 // The latest time that a call takes.
 pub const LAST_TIME: u64 = 281474976710655;
 
-// The open block is the first `held` bytes of `block`. A byte at a time below `free` is in quiet.
+// The open block has `held` bytes: `first`, and the latest of `tail`. A byte at a time below `free` is in quiet.
 pub struct Deck {
     pub clock: u64,
     pub last: u64,
     pub free: u64,
     pub held: usize,
-    pub block: Packed,
+    pub first: u64,
+    pub tail: Tail,
     pub settings: Settings,
 }
 
@@ -38,10 +40,11 @@ pub struct Answer {
     pub second: Sent,
 }
 
-// What `join` did: the number, whether the byte was taken, and the deck.
+// What `join` did: the number, whether the byte was taken, whether it is one for `fill`, and the deck.
 pub struct Joined {
     pub no: u8,
     pub taken: bool,
+    pub fills: bool,
     pub deck: Deck,
 }
 
@@ -54,7 +57,8 @@ impl Deck {
             last: 0,
             free: 0,
             held: 0,
-            block: Packed::none(),
+            first: 0,
+            tail: Tail::none(),
             settings: Settings::power_on(),
         }
     }
@@ -86,17 +90,33 @@ impl Deck {
         if self.timed_out(time) {
             return false;
         }
-        let block = self.block;
-        self.held < line::size(block.at(0)) - 1
+        self.held <= (self.first % 16) as usize + 1
+    }
+
+    // A clean byte at this time, whatever its content, is heard, finds no time-out and fills the block.
+    fn fills(self, time: u64) -> bool
+        ensures { λ r. ⌜ ((content : ℕ) → r ≡ fills (view self) time content) ⌝ }
+    {
+        if self.held == 0 {
+            return false;
+        }
+        if time < self.free {
+            return false;
+        }
+        if self.timed_out(time) {
+            return false;
+        }
+        (self.first % 16) as usize + 1 < self.held
     }
 
     // A byte that does not join.
-    fn unjoined(self, no: u8) -> Joined
-        ensures { λ r. ⌜ r ≡ record { no = no; taken = false; deck = self } ⌝ }
+    fn unjoined(self, no: u8, fills: bool) -> Joined
+        ensures { λ r. ⌜ r ≡ record { no = no; taken = false; fills = fills; deck = self } ⌝ }
     {
         Joined {
             no: no,
             taken: false,
+            fills: fills,
             deck: self,
         }
     }
@@ -108,21 +128,56 @@ impl Deck {
     {
         let no = number::refusal(18, self.clock, time, 0, 0);
         if no != 0 {
-            return self.unjoined(no);
+            return self.unjoined(no, false);
         }
         if !self.grows(time) {
-            return self.unjoined(0);
+            return self.unjoined(0, self.fills(time));
         }
-        let block = self.block;
-        self.block = block.put(self.held, content);
-        self.held += 1;
         self.clock = time;
-        self.last = time;
         Joined {
             no: 0,
             taken: true,
-            deck: self,
+            fills: false,
+            deck: self.grown(time, content),
         }
+    }
+
+    // A clean byte that is heard, finds no time-out and fills the block: what `byte` does. Any other changes nothing.
+    pub fn fill(mut self, time: u64, content: u8, out: &mut [u8]) -> Answer
+        ensures { λ r. ⌜ OnlyIf (filling (length (now (out .entry))) self time content)
+            self (byte time content 0) (now (out .entry)) r (now (out .exit)) ⌝ }
+    {
+        let no = number::refusal(out.len(), self.clock, time, 0, 0);
+        if no != 0 {
+            return self.refused(no);
+        }
+        if !self.fills(time) {
+            return self.refused(0);
+        }
+        self.clock = time;
+        self.full(time, content, out)
+    }
+
+    // A flagged byte, whatever its content, that is heard and finds no time-out: what `byte` does. Any other changes nothing.
+    pub fn strike(mut self, time: u64, flags: u8, out: &mut [u8]) -> Answer
+        ensures { λ r. ⌜ ((content : ℕ) → OnlyIf (striking (length (now (out .entry))) self time flags)
+            self (byte time content flags) (now (out .entry)) r (now (out .exit))) ⌝ }
+    {
+        let no = number::refusal(out.len(), self.clock, time, flags, 0);
+        if no != 0 {
+            return self.refused(no);
+        }
+        if flags == 0 {
+            return self.refused(0);
+        }
+        if time < self.free {
+            return self.refused(0);
+        }
+        if self.timed_out(time) {
+            return self.refused(0);
+        }
+        self.clock = time;
+        self.nak(flags, time, out)
     }
 
     pub fn look(mut self, time: u64, out: &mut [u8]) -> Answer

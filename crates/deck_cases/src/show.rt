@@ -104,16 +104,28 @@ fn signed(v: i32) {
     digits(speed::size(v));
 }
 
+// The open block: its first byte, and those behind it in the order in which they came.
+fn open_block(d: Deck) {
+    if d.held == 0 {
+        return;
+    }
+    byte((d.first % 256) as u8);
+    let tail = d.tail;
+    let mut left = d.held - 1;
+    while left > 0 {
+        left -= 1;
+        byte(tail.at(left));
+    }
+}
+
 // What the rules settle of a deck: clock, open block, status bytes, position, In, Out, speed.
 pub(super) fn state(d: Deck) {
-    let open = d.block;
-    let block = open.bytes();
     let settings = d.settings;
     let status = settings.status();
     text(b"deck");
     number(d.clock);
     text(b" [");
-    bytes(&block, d.held);
+    open_block(d);
     text(b" ]");
     bytes(&status, 13);
     text(b" at");

@@ -1,9 +1,8 @@
 -- What a command comes to, case by case.
 use mathlib.Core.Path.{_≡_, refl, sym, ap, _∙_}
-use mathlib.Core.Bool.{Bool, true, false}
+use mathlib.Core.Bool.{true, false}
 use mathlib.Core.List.{List, [], _∷_}
 use Prim.Native.Nat.{ℕ, _≤_, _<_}
-use native.Mathlib.Omega.{arith}
 use borrow.Author.Tests.{le-leb, lt-leb, eq-eqb, ne-eqb}
 use lib.ListN.{getD, take}
 use Rattle.block.specs.Read.{readNo, readData}
@@ -54,9 +53,6 @@ module _ (s : Settings) (bytes : List ℕ) where
   pub carry-kind : (k l : ReplyKind) → k ≡ l → carry k s bytes ≡ carry l s bytes
   carry-kind k l e = ap (λ (x : ReplyKind). carry x s bytes) e
 
-pub carried : (s : Settings) {k l : ReplyKind} {xs ys : List ℕ} → k ≡ l → xs ≡ ys → carry k s xs ≡ carry l s ys
-carried s {k} {l} {xs} {ys} e f = cc
-
 -- the codes and bytes as the code has them
 pub point-read : (w : Which) (s : Settings) (bytes : List ℕ) (code : ℕ) (p : Point) (t : Timed)
     → code ≡ pointCode w → p ≡ pointOf w s → t ≡ writeTime (p .at) → carry (PointTime w) s bytes ≡ answered s 0x7 code (t .bytes)
@@ -71,6 +67,9 @@ within-under low high n l = rw (lt-leb low n l)
 
 within-over : (low high n : ℕ) → low ≤ n → high < n → within low high n ≡ false
 within-over low high n l h = rw (le-leb low n l, lt-leb n high h)
+
+pub first-in : {xs ys : List ℕ} → xs ≡ ys → getD xs 0 0 ≡ getD ys 0 0
+first-in e = ap (λ (l : List ℕ). getD l 0 0) e
 
 -- the two kinds that test their data byte n
 module _ (s : Settings) (bytes : List ℕ) (n : ℕ) (first : n ≡ getD bytes 0 0) where

@@ -3,7 +3,6 @@ use mathlib.Core.Path.{_≡_, _∙_}
 use mathlib.Core.Bool.{false}
 use mathlib.Core.List.{List}
 use Prim.Native.Nat.{ℕ}
-use borrow.Author.Tests.{eq-eqb}
 use lib.ListN.{getD}
 use Rattle.block.specs.Read.{readNo, readData}
 use Rattle.settings.specs.declared.Settings.{Settings}

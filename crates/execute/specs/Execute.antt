@@ -1,9 +1,11 @@
 -- Document 01: "A full block: checksum, then command with its exact count, then data; the first failure gives the NAK."
-use mathlib.Core.Bool.{Bool, true, false, cond, _&&_}
+use mathlib.Core.Bool.{Bool, false, cond, _&&_}
 use mathlib.Core.List.{List, [], _∷_, _++_}
 use Prim.Native.Nat.{ℕ}
 use lib.Dec.{eqb, leb, ltb}
 use lib.ListN.{length, getD, take, drop}
+use Rattle.packed.specs.declared.Tail.{Tail}
+use Rattle.packed.specs.Tail.{latest}
 use Rattle.block.specs.Read.{readNo, readData}
 use Rattle.timecode.specs.Time.{writeTime}
 use Rattle.execute.specs.declared.Executed.{Executed}
@@ -57,7 +59,11 @@ execute s block =
     (carry (lookup commands (getD block 0 0) (getD block 1 0)) s (readData block))
     (refused s badChecksum)
 
--- ---- the call, for any settings, bytes and output
+-- ---- the call, for any settings, block and output
+
+-- the block whose first byte, middle and last byte are handed over
+abbrev pub blockIn : ℕ → ℕ → Tail → ℕ → List ℕ
+blockIn first count t last = first ∷ latest count t ++ last ∷ []
 
 -- what an outcome hands back, and what the output then holds: the reply at its front, the rest of it untouched
 abbrev pub shown : Outcome → Executed

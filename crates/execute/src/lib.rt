@@ -1,16 +1,23 @@
 // What a full block does to the settings, and the deck's replies.
+use packed::Tail;
 use settings::Settings;
 ghost use mathlib.Core.Path.{_≡_};
 ghost use mathlib.Core.List.{[], _∷_};
 ghost use Rattle.block.specs.Write.{written, writtenOut};
 ghost use Rattle.execute.specs.Replies.{opensQuiet};
-ghost use Rattle.execute.specs.Execute.{executed, executedOut};
+ghost use Rattle.execute.specs.Execute.{blockIn, executed, executedOut};
 
 mod answers;
+mod short;
 
 const ROOM: u8 = 1;
 
 const BAD_CHECKSUM: u8 = 0x04;
+
+const UNDEFINED: u8 = 0x01;
+
+// No listed command has more data than four bytes: with the command byte, five.
+const LISTED: usize = 5;
 
 // The number, the settings, the length of the reply, and whether it opens a quiet.
 pub struct Executed {
@@ -35,10 +42,18 @@ pub fn nak(why: u8, out: &mut [u8]) -> block::Written
     block::write(0x1, 0x12, &[why], out)
 }
 
-// What a full block does to the settings, with the reply at the front of the output.
-pub fn execute(settings: Settings, bytes: &[u8], out: &mut [u8]) -> Executed
-    ensures { λ r. ⌜ r ≡ executed settings (now (bytes .entry)) (now (out .entry)) ⌝
-        ∗ ⌜ now (out .exit) ≡ executedOut settings (now (bytes .entry)) (now (out .entry)) ⌝ }
+// What a full block does to the settings, with the reply at the front of the output. The block is handed over in parts: its first
+// byte, the latest `count` bytes of `tail`, and its last byte.
+pub fn execute(
+    settings: Settings,
+    first: u8,
+    tail: Tail,
+    count: usize,
+    last: u8,
+    out: &mut [u8],
+) -> Executed
+    ensures { λ r. ⌜ r ≡ executed settings (blockIn first count tail last) (now (out .entry)) ⌝
+        ∗ ⌜ now (out .exit) ≡ executedOut settings (blockIn first count tail last) (now (out .entry)) ⌝ }
 {
     if out.len() < 18 {
         return Executed {
@@ -48,11 +63,13 @@ pub fn execute(settings: Settings, bytes: &[u8], out: &mut [u8]) -> Executed
             quiets: false,
         };
     }
-    let header = block::fields(bytes);
-    if header.no != 0 {
+    if LISTED < count || count != (first & 15) as usize + 1 {
+        return answers::refuse(settings, short::why(first, tail, count, last), out);
+    }
+    let body = short::body(tail, count);
+    if short::sum(first, body) != last {
         return answers::refuse(settings, BAD_CHECKSUM, out);
     }
-    let kind = command::find(bytes[0], header.command);
-    let end = bytes.len() - 1;
-    answers::carry(kind, settings, &bytes[2..end], out)
+    let kind = command::find(first, short::command(body));
+    answers::carry(kind, settings, body, out)
 }

@@ -8,3 +8,4 @@ pub mod Passing
 pub mod Judged
 pub mod Taken
 pub mod Unique
+pub mod Filled

@@ -6,13 +6,11 @@ use native.Mathlib.Omega.{arith}
 use borrow.Author.Tests.{lt-ltb, le-leb, eq-eqb}
 use lib.Dec.{eqb, leb}
 use lib.ListN.{drop}
-use Rattle.packed.specs.Packed.{unpacked}
-use Rattle.packed.proofs.Packing.{length-unpacked}
 use Rattle.deck.specs.declared.Deck.{Deck as Held}
 use Rattle.deck.specs.declared.Joined.{Joined}
 use Rattle.deck.specs.Line.{byte, Answer, silently, isOpen, looked, answers}
 use Rattle.deck.specs.Calls.{view}
-use Rattle.deck.specs.Joins.{joins, joining}
+use Rattle.deck.specs.Joins.{joins, withClock, joining}
 use Rattle.deck.proofs.Made.{made-so}
 use Rattle.deck.proofs.Steps.{look-nothing}
 use Rattle.deck.proofs.Joining.{grows-looked, grows-heard, joining-taken, joins-grows, joins-range, joins-deck, joins-answers, joining-made}
@@ -32,18 +30,7 @@ untaken b p q = absurd (false≢true (sym p ∙ q))
 
 -- told the time, where no time-out is due
 abbrev pub timed : ℕ → Marker → Marker
-timed t m =
-    record {
-      deck = record {
-        clock = t;
-        last = m .deck .last;
-        free = m .deck .free;
-        held = m .deck .held;
-        block = m .deck .block;
-        settings = m .deck .settings;
-      };
-      waits = m .waits;
-    }
+timed t m = record { deck = withClock t (m .deck); waits = m .waits }
 
 module _ (m q : Marker) (e : Entry) (f : formed e ≡ true) (t : m .deck .clock ≤ e .time)
     (s : looked (view (m .deck)) (e .time) ≡ silently (view (m .deck))) where
@@ -53,10 +40,10 @@ module _ (m q : Marker) (e : Entry) (f : formed e ≡ true) (t : m .deck .clock 
         deck = sym (ap (λ (x : Answer). x .deck) s);
         waits = sym (ap (λ (x : Answer). await (x .replies) (awaited (m .waits))) s);
         clock = refl;
-        made = made-so (m .deck) (timed (e .time) m .deck) refl refl;
+        made = made-so (m .deck) (timed (e .time) m .deck) refl refl refl;
       }
 
-  passes : lateFault (view (m .deck)) (awaited (m .waits)) e ≡ 0 → Does (timed (e .time) m) e q
+  pub passes : lateFault (view (m .deck)) (awaited (m .waits)) e ≡ 0 → Does (timed (e .time) m) e q
       → (b : Bool) → b ≡ isController (e .kind) && (not (isOpen (view (m .deck) .block)) && leb (m .deck .free) (e .time))
       → Steps m e (record { fault = 0; begins = b; marker = q })
   passes z o b p = gone m e (timed (e .time) m) q looks o f t z b p
@@ -75,7 +62,7 @@ module _ (m : Marker) (e : Entry) (c : e .flags ≡ 0) where
       (agrees (view (m .deck)) (awaited (m .waits)) e (x .awaits) (x .soon) k (x .next))
       (takes (timed (e .time) m) q e k refl refl p) false (rw k)
 
-  formed-byte : e .kind ≡ 0 → e .content < 256 → e .time < 2 ^ 48 → formed e ≡ true
+  pub formed-byte : e .kind ≡ 0 → e .content < 256 → e .time < 2 ^ 48 → formed e ≡ true
   formed-byte k s h = rw (fits-controller e k, c, lt-ltb (e .content) 256 s, lt-ltb (e .time) (2 ^ 48) h)
 
   -- a byte that joins the block
@@ -98,10 +85,10 @@ module _ (m : Marker) (e : Entry) (c : e .flags ≡ 0) where
         deck = sym (ap (λ (z : Answer). z .deck) a);
         waits = sym (ap (λ (z : Answer). await (z .replies) (awaited (m .waits))) a);
         clock = ap (λ (z : Joined). z .deck .clock) p ∙ ap (λ (z : Held). z .clock) (joins-deck d (e .time) (e .content) x);
-        made = λ z. rw p (joining-made d (e .time) (e .content) s (made-so (timed (e .time) m .deck) d refl refl z));
+        made = λ z. rw p (joining-made d (e .time) (e .content) s (made-so (timed (e .time) m .deck) d refl refl refl z));
       } in
       passes m q e (formed-byte k s (r .0)) (r .1) l (none-awaited (view d) (awaited (m .waits)) e n (λ z. omega arith))
       (does (timed (e .time) m) q e 0 k refl l acts)
       (eqb (d .held) 0)
       (rw (k, le-leb (d .free) (e .time) (grows-heard d (e .time) (e .content) g), and-true)
-      (none-held (d .held) (unpacked (d .block)) (omega (arith, length-unpacked (d .block)))))
+      (none-held (d .held) (d .first) (d .tail)))

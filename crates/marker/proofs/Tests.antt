@@ -1,28 +1,27 @@
 -- The tests after the look, as the code makes them.
-use Prim.Native.Nat.{ℕ, zero, suc, _≤_, _<_, min}
+use Prim.Native.Nat.{ℕ, zero, suc, _≤_, _<_}
 use mathlib.Core.Path.{_≡_, refl, ap}
 use mathlib.Core.Bool.{true, false, not, and-false}
-use mathlib.Core.List.{List}
 use native.Mathlib.Omega.{arith}
 use borrow.Author.Tests.{lt-ltb, le-ltb, le-leb, lt-leb, eq-eqb, ne-eqb}
 use lib.Dec.{eqb}
-use lib.ListN.{length, take, getD}
+use lib.ListN.{getD}
+use Rattle.packed.specs.declared.Tail.{Tail}
 use Rattle.deck.specs.Line.{Deck, isOpen}
-use Rattle.deck.proofs.Late.{opened}
+use Rattle.deck.specs.Calls.{openBlock}
 use Rattle.record.specs.declared.Entry.{Entry}
 use Rattle.record.specs.Machine.{Waiting, some}
 use Rattle.marker.specs.Steps.{lateFault}
 use Rattle.marker.proofs.Forms.{no-controller, no-deck}
 
 -- no byte is held
-pub shut : (n : ℕ) (block : List ℕ) → n ≡ 0 → isOpen (take (min n 17) block) ≡ false
-shut n block e = ap (λ (k : ℕ). isOpen (take (min k 17) block)) e
+pub shut : (n first : ℕ) (t : Tail) → n ≡ 0 → isOpen (openBlock n first t) ≡ false
+shut n first t e = ap (λ (k : ℕ). isOpen (openBlock k first t)) e
 
 -- and a block is open where one is
-pub none-held : (n : ℕ) (block : List ℕ) → 0 < length block → eqb n 0 ≡ not (isOpen (take (min n 17) block))
-none-held zero block l = refl
-none-held (suc n) block l =
-    let s : suc n ≡ 0 → ⊥ = λ z. omega arith in rw (opened (suc n) block s l) (ne-eqb (suc n) 0 s)
+pub none-held : (n first : ℕ) (t : Tail) → eqb n 0 ≡ not (isOpen (openBlock n first t))
+none-held zero first t = refl
+none-held (suc n) first t = ne-eqb (suc n) 0 (λ z. omega arith)
 
 module _ (d : Deck) (w : Waiting) (e : Entry) where
   module _ (s : some (w .left) ≡ false) where

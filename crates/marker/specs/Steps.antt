@@ -1,14 +1,15 @@
 -- The code's marker, and what a step has to come to: a step of the automaton of `record`.
 use Prim.Native.Nat.{ℕ, suc, _+_, _≤_, _<_, _^_}
 use mathlib.Core.Path.{_≡_}
-use mathlib.Core.Bool.{true, false, cond, not, _&&_}
+use mathlib.Core.Bool.{Bool, true, false, cond, not, _&&_}
 use mathlib.Core.List.{List, [], _∷_, _++_}
 use lib.Dec.{eqb, ltb, leb}
-use lib.ListN.{take, drop, getD}
+use lib.ListN.{take, getD}
 use Rattle.packed.specs.Packed.{packed, unpacked}
 use Rattle.deck.specs.declared.Sent.{Sent}
 use Rattle.deck.specs.Line.{Deck, Answer, isOpen, acted}
 use Rattle.deck.specs.Calls.{view, newDeck, Made}
+use Rattle.deck.specs.Joins.{filling}
 use Rattle.record.specs.declared.Entry.{Entry}
 use Rattle.record.specs.Entries.{handed, keep, isController, isDeck}
 use Rattle.record.specs.Machine.{Waiting, waiting, some, await, took, firstTrue, State, Outcome, goes, stops, step}
@@ -20,7 +21,7 @@ use Rattle.marker.specs.declared.Weighed.{Weighed}
 -- ---- the code's marker
 
 abbrev pub awaited : Waits → Waiting
-awaited w = waiting (drop (w .from) (take (w .end) (unpacked (w .reply)))) (w .latest)
+awaited w = waiting (take (w .left) (unpacked (w .reply))) (w .latest)
 
 -- as a state of the automaton, which counts the entries taken and keeps the starts
 abbrev pub state : ℕ → List ℕ → Marker → State
@@ -29,7 +30,7 @@ state taken starts m =
 
 -- before the first entry
 abbrev pub newMarker : Marker
-newMarker = record { deck = newDeck; waits = record { reply = packed []; from = 0; end = 0; latest = 0 } }
+newMarker = record { deck = newDeck; waits = record { reply = packed []; left = 0; latest = 0 } }
 
 -- ---- the parts of a step
 
@@ -70,8 +71,7 @@ outcome taken starts r =
     (stops (r .fault))
 
 -- the automaton's, however many entries were taken and whatever starts were found; with a fault nothing begins and the marker
--- is the same; and a deck that events made stays one. Left free is where in `reply` the bytes still to come stand, and what
--- else it holds.
+-- is the same; and a deck that events made stays one. Left free is what `reply` holds behind the bytes still to come.
 pub record Steps (m : Marker) (e : Entry) (r : Stepped) : Type 0 where
   pub steps : (taken : ℕ) (starts : List ℕ) → outcome taken starts r ≡ step (state taken starts m) e
   pub same : (r .fault ≡ 0 → ⊥) → (r .begins ≡ false) × (r .marker ≡ m)
@@ -92,3 +92,11 @@ pub record Expected (m : Marker) (e : Entry) : Type 0 where
 -- one that is taken has no fault
 abbrev pub stepped : Weighed → Stepped
 stepped r = record { fault = 0; begins = r .begins; marker = r .marker }
+
+-- ---- an entry that fills the block
+
+-- a clean controller byte that fills it, where no reply is awaited
+unfoldable pub fillsBlock : Marker → Entry → Bool
+fillsBlock m e =
+    isController (e .kind) && (eqb (e .flags) 0 && (ltb (e .content) 256
+    && (not (some (awaited (m .waits) .left)) && filling 18 (m .deck) (e .time) (e .content))))

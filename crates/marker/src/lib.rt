@@ -3,22 +3,22 @@ use deck::Deck;
 use packed::Packed;
 ghost use mathlib.Core.Path.{_≡_};
 ghost use mathlib.Core.Bool.{cond};
-ghost use Prim.Native.Nat.{_/_, _≤_};
-ghost use lib.ListN.{length};
+ghost use Prim.Native.Nat.{_/_, _≤_, _<_};
+ghost use lib.ListN.{length, getD};
+ghost use Rattle.record.specs.Bytes.{entriesOf, noEntry};
 ghost use Rattle.record.specs.Machine.{resting};
 ghost use Rattle.deck.specs.Calls.{view};
-ghost use Rattle.marker.specs.Steps.{awaited, newMarker};
+ghost use Rattle.marker.specs.Steps.{awaited, newMarker, fillsBlock};
 ghost use Rattle.marker.specs.Marks.{refusal, Leads, Runs, Marks};
 
 mod light;
 mod reply;
 mod step;
 
-// The bytes of a reply that are still to come are those of `reply` from `from` to `end`; none is to come later than `latest`.
+// The bytes of a reply that are still to come are the first `left` of `reply`; none is to come later than `latest`.
 pub struct Waits {
     pub reply: Packed,
-    pub from: usize,
-    pub end: usize,
+    pub left: usize,
     pub latest: u64,
 }
 
@@ -35,15 +35,17 @@ pub struct Stepped {
     pub marker: Marker,
 }
 
-// Whether an entry is light. If it is: whether it begins a turn, and the marker after it.
+// Whether an entry is light; whether it is not, but fills the block. Of a light one: whether it begins a turn, and the marker after it.
 struct Weighed {
     taken: bool,
+    fills: bool,
     begins: bool,
     marker: Marker,
 }
 
-// Where the light entries end: the place, the turn starts so far and the marker.
+// Where the light entries end: whether the next one fills the block, the place, the turn starts so far and the marker.
 struct Passed {
+    fills: bool,
     place: usize,
     count: usize,
     marker: Marker,
@@ -72,8 +74,7 @@ impl Marker {
             deck: Deck::power_on(),
             waits: Waits {
                 reply: Packed::none(),
-                from: 0,
-                end: 0,
+                left: 0,
                 latest: 0,
             },
         }
@@ -113,7 +114,9 @@ fn pass(bytes: &[u8], table: &mut [u32], from: Marker, counted: usize, at: usize
     requires { ⌜ (length (now bytes) ≤ 65532) × (length (now bytes) / 12 ≤ length (now table))
         × Leads (now bytes) (now table) (now table) from counted at ⌝ }
     ensures { λ r. ⌜ Leads (now (bytes .entry)) (now (table .entry)) (now (table .exit)) (r .marker) (r .count) (r .place)
-        × (counted ≤ r .count) × (at ≤ r .place) ⌝ }
+        × (counted ≤ r .count) × (at ≤ r .place)
+        × (r .place < length (now (bytes .entry)) / 12
+        → r .fills ≡ fillsBlock (r .marker) (getD (entriesOf (now (bytes .entry))) (r .place) noEntry)) ⌝ }
 {
     let n = bytes.len() / 12;
     let mut marker = from;
@@ -124,6 +127,7 @@ fn pass(bytes: &[u8], table: &mut [u32], from: Marker, counted: usize, at: usize
         let l = marker.light(t.entry);
         if !l.taken {
             return Passed {
+                fills: l.fills,
                 place: place,
                 count: count,
                 marker: marker,
@@ -137,6 +141,7 @@ fn pass(bytes: &[u8], table: &mut [u32], from: Marker, counted: usize, at: usize
         place = t.place;
     }
     Passed {
+        fills: false,
         place: place,
         count: count,
         marker: marker,
@@ -159,7 +164,7 @@ fn run(bytes: &[u8], table: &mut [u32]) -> Marked
         i = p.place;
         if i < n {
             let t = cursor::take(bytes, i);
-            let r = marker.step(t.entry);
+            let r = marker.go(t.entry, p.fills);
             if r.fault != 0 {
                 return Marked {
                     no: 0,

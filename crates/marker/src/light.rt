@@ -5,15 +5,16 @@ use deck::LAST_TIME;
 use record::Entry;
 ghost use mathlib.Core.Path.{_≡_};
 ghost use mathlib.Core.Bool.{true, false};
-ghost use Rattle.marker.specs.Steps.{Expected, stepped, Steps};
+ghost use Rattle.marker.specs.Steps.{Expected, stepped, Steps, fillsBlock};
 
 impl Marker {
     // Not light.
-    fn heavy(self) -> Weighed
-        ensures { λ r. ⌜ r .taken ≡ false ⌝ }
+    fn heavy(self, fills: bool) -> Weighed
+        ensures { λ r. ⌜ (r .taken ≡ false) × (r .fills ≡ fills) ⌝ }
     {
         Weighed {
             taken: false,
+            fills: fills,
             begins: false,
             marker: self,
         }
@@ -46,16 +47,17 @@ impl Marker {
     // A deck byte.
     fn reply_byte(mut self, e: Entry) -> Weighed
         requires { ⌜ (e .kind ≡ 1) × (e .flags ≡ 0) ⌝ }
-        ensures { λ r. ⌜ (r .taken ≡ true → Steps self e (stepped r)) ⌝ }
+        ensures { λ r. ⌜ (r .taken ≡ true → Steps self e (stepped r)) × (r .fills ≡ fillsBlock self e) ⌝ }
     {
         if !self.comes(e) {
-            return self.heavy();
+            return self.heavy(false);
         }
         let waits = self.waits;
         self.deck.clock = e.time;
         self.waits = waits.taken(e.time);
         Weighed {
             taken: true,
+            fills: false,
             begins: false,
             marker: self,
         }
@@ -64,42 +66,42 @@ impl Marker {
     // A clean byte of a block that it does not fill, where no reply is awaited.
     fn block_byte(mut self, e: Entry) -> Weighed
         requires { ⌜ (e .kind ≡ 0) × (e .flags ≡ 0) ⌝ }
-        ensures { λ r. ⌜ (r .taken ≡ true → Steps self e (stepped r)) ⌝ }
+        ensures { λ r. ⌜ (r .taken ≡ true → Steps self e (stepped r)) × (r .fills ≡ fillsBlock self e) ⌝ }
     {
         if 255 < e.content {
-            return self.heavy();
+            return self.heavy(false);
         }
         let waits = self.waits;
         if waits.any() {
-            return self.heavy();
+            return self.heavy(false);
         }
         let deck = self.deck;
         let joined = deck.join(e.time, e.content as u8);
         if !joined.taken {
-            return self.heavy();
+            return self.heavy(joined.fills);
         }
         let after = joined.deck;
         self.deck = after;
         Weighed {
             taken: true,
+            fills: false,
             begins: deck.held == 0,
             marker: self,
         }
     }
 
-    // A light entry is taken. Of one that is not taken nothing is said: `step` decides.
+    // A light entry is taken. Of one that is not, nothing is said but whether it fills the block.
     pub(super) fn light(self, e: Entry) -> Weighed
-        ensures { λ r. ⌜ (r .taken ≡ true → Steps self e (stepped r)) ⌝ }
+        ensures { λ r. ⌜ (r .taken ≡ true → Steps self e (stepped r)) × (r .fills ≡ fillsBlock self e) ⌝ }
     {
-        if e.flags != 0 {
-            return self.heavy();
-        }
-        if e.kind == 0 {
+        // kind and flags at once
+        let head = e.kind as u32 + 256 * (e.flags as u32);
+        if head == 0 {
             return self.block_byte(e);
         }
-        if e.kind == 1 {
+        if head == 1 {
             return self.reply_byte(e);
         }
-        self.heavy()
+        self.heavy(false)
     }
 }

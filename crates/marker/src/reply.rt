@@ -13,21 +13,18 @@ impl Waits {
     pub(super) fn any(self) -> bool
         ensures { λ r. ⌜ r ≡ some (awaited self .left) ⌝ }
     {
-        if self.end <= self.from {
-            return false;
-        }
-        self.from < 24
+        self.left != 0
     }
 
     // The next byte, 0 if there is none.
     pub(super) fn next(self) -> u8
         ensures { λ r. ⌜ r ≡ getD (awaited self .left) 0 0 ⌝ }
     {
-        if self.end <= self.from {
+        if self.left == 0 {
             return 0;
         }
         let reply = self.reply;
-        reply.at(self.from)
+        reply.first()
     }
 
     // A byte has come.
@@ -36,9 +33,18 @@ impl Waits {
         ensures { λ r. ⌜ awaited r ≡ waiting (drop 1 (awaited self .left)) (time + 10000) ⌝ }
     {
         self.latest = time + 10000;
-        if self.from < self.end {
-            self.from += 1;
+        if self.left == 0 {
+            return self;
         }
+        let reply = self.reply;
+        if self.left <= 8 {
+            self.reply = reply.low_rest();
+            self.left -= 1;
+            return self;
+        }
+        // A count over 24 stands for 24.
+        self.reply = reply.rest();
+        self.left = if self.left < 24 { self.left - 1 } else { 23 };
         self
     }
 
@@ -52,8 +58,7 @@ impl Waits {
         }
         Waits {
             reply: Packed::pack(out),
-            from: 0,
-            end: sent.len,
+            left: sent.len,
             latest: sent.due + 9000,
         }
     }

@@ -12,7 +12,8 @@ ghost use Rattle.deck.specs.Line.{byte, look, position, cassette, isOpen, silen
 ghost use Rattle.deck.specs.Calls.{view, flagsFit};
 ghost use Rattle.record.specs.Entries.{formed, isController};
 ghost use Rattle.record.specs.Machine.{some};
-ghost use Rattle.marker.specs.Steps.{awaited, heard, lateFault, Acts, Does, Steps};
+ghost use Rattle.deck.specs.Joins.{fills};
+ghost use Rattle.marker.specs.Steps.{awaited, heard, lateFault, Acts, Does, Steps, fillsBlock};
 
 const MALFORMED: u8 = 20;
 
@@ -52,16 +53,26 @@ impl Marker {
         self.after(answer, out)
     }
 
-    // The deck is told a controller byte, after the look.
+    // The deck is told a controller byte that does not fill the block, after the look.
     fn hear(self, time: u64, content: u8, flags: u8) -> Marker
         requires { ⌜ (self .deck .clock ≡ time) × (time < 2 ^ 48) × (flagsFit flags ≡ true)
-            × (looked (view (self .deck)) time ≡ silently (view (self .deck))) ⌝ }
+            × (looked (view (self .deck)) time ≡ silently (view (self .deck)))
+            × (flags ≡ 0 → fills (view (self .deck)) time content ≡ false) ⌝ }
         ensures { λ r. ⌜ Acts self time (answers (view (self .deck)) (byte time content flags)) r ⌝ }
     {
-        let mut out = [0u8; 24];
         let deck = self.deck;
-        let answer = deck.byte(time, content, flags, &mut out);
-        self.after(answer, out)
+        if flags != 0 {
+            let mut out = [0u8; 24];
+            let answer = deck.strike(time, flags, &mut out);
+            return self.after(answer, out);
+        }
+        let joined = deck.join(time, content);
+        let after = joined.deck;
+        let waits = self.waits;
+        Marker {
+            deck: after,
+            waits: waits,
+        }
     }
 
     // The deck is told a position, after the look.
@@ -143,7 +154,8 @@ impl Marker {
     // The entry itself, after the look.
     fn act(self, e: Entry) -> Marker
         requires { ⌜ (formed e ≡ true) × (self .deck .clock ≡ e .time)
-            × (looked (view (self .deck)) (e .time) ≡ silently (view (self .deck))) ⌝ }
+            × (looked (view (self .deck)) (e .time) ≡ silently (view (self .deck)))
+            × (e .kind ≡ 0 → e .flags ≡ 0 → fills (view (self .deck)) (e .time) (e .content) ≡ false) ⌝ }
         ensures { λ r. ⌜ Does self e r ⌝ }
     {
         if e.kind == 0 {
@@ -173,8 +185,24 @@ impl Marker {
         }
     }
 
-    // The marker after this entry, or the entry's fault.
-    pub fn step(self, e: Entry) -> Stepped
+    // An entry that fills the block, where no reply is awaited: it breaks no rule.
+    fn fill(self, e: Entry) -> Stepped
+        requires { ⌜ fillsBlock self e ≡ true ⌝ }
+        ensures { λ r. ⌜ Steps self e r ⌝ }
+    {
+        let mut out = [0u8; 24];
+        let deck = self.deck;
+        let answer = deck.fill(e.time, e.content as u8, &mut out);
+        Stepped {
+            fault: 0,
+            begins: false,
+            marker: self.after(answer, out),
+        }
+    }
+
+    // Any other entry.
+    fn other(self, e: Entry) -> Stepped
+        requires { ⌜ fillsBlock self e ≡ false ⌝ }
         ensures { λ r. ⌜ Steps self e r ⌝ }
     {
         if !record::formed(e) {
@@ -194,5 +222,24 @@ impl Marker {
             begins: now.begins(e),
             marker: now.act(e),
         }
+    }
+
+    // The entry, where it is known whether it fills the block.
+    pub(super) fn go(self, e: Entry, fills: bool) -> Stepped
+        requires { ⌜ fills ≡ fillsBlock self e ⌝ }
+        ensures { λ r. ⌜ Steps self e r ⌝ }
+    {
+        if fills {
+            return self.fill(e);
+        }
+        self.other(e)
+    }
+
+    // The marker after this entry, or the entry's fault.
+    pub fn step(self, e: Entry) -> Stepped
+        ensures { λ r. ⌜ Steps self e r ⌝ }
+    {
+        let w = self.light(e);
+        self.go(e, w.fills)
     }
 }

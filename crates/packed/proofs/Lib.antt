@@ -3,3 +3,4 @@ pub mod Bytes
 pub mod Numbers
 pub mod Units
 pub mod Packing
+pub mod Tails

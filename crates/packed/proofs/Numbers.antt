@@ -83,6 +83,15 @@ low-with (suc k) v b =
     let a : b * (u * 256) ≡ b * u * 256 = sym (mul-assoc b u 256) in
     rw (low-with k (v / 256) b, pow-suc 256 k, m, a) (omega arith)
 
+-- so many bytes of a number tell its remainder
+pub low-cut : (k v : ℕ) → lowFirst (lowBytes k v) ≡ v % 256 ^ k
+unfolding lowBytes
+low-cut zero v = omega arith
+low-cut (suc k) v =
+    let u = 256 ^ k in
+    let m : v % (u * 256) ≡ (v / 256 % u) * 256 + v % 256 = mod-mul v (unit-pos k) (omega arith) in
+    rw (low-cut k (v / 256), pow-suc 256 k, m) (omega arith)
+
 -- ---- part of a list
 
 -- n bytes from the i-th on, one by one

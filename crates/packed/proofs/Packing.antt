@@ -1,13 +1,13 @@
 -- What is packed is unpacked again; and a byte more.
-use Prim.Native.Nat.{ℕ, _+_, _-_, _*_, _%_, _^_, _≤_, _<_}
+use Prim.Native.Nat.{ℕ, _+_, _-_, _*_, _/_, _%_, _^_, _≤_, _<_}
 use mathlib.Core.Path.{_≡_, refl, sym, ap, _∙_, subst}
-use mathlib.Core.List.{List, [], _∷_, _++_, append-assoc}
+use mathlib.Core.List.{List, [], _∷_, _++_}
 use native.Mathlib.Decide.{decLt}
-use native.Mathlib.Nat.{zero-add}
+use native.Mathlib.Nat.{zero-add, mod-lt, mod-eq-of-lt}
 use native.Mathlib.Omega.{arith}
-use lib.ListN.{length, take, drop, getD, length-append, drop-of-length-le, List·getD-append}
-use lib.Seq.{take-all, take-at, drop-at, drop-drop, take-append-le, take-append-add, getD-append-add, getD-take, getD-drop}
-use lib.Seq.{ext-getD, length-take-le}
+use lib.ListN.{length, take, drop, getD, List·getD-append}
+use lib.Seq.{take-all, take-append-le, getD-append-add, getD-take, getD-drop}
+use lib.Seq.{ext-getD, length-take-le, take-take}
 use Rattle.packed.specs.declared.Packed.{Packed}
 use Rattle.packed.specs.Numbers.{lowFirst, lowBytes}
 use Rattle.packed.specs.Packed.{unpacked, packed}
@@ -25,7 +25,7 @@ unpacked-are-bytes p =
 
 -- ---- the byte at a place, by the number that has it
 
-at-next : (a b : List ℕ) (i : ℕ) → length a ≡ 8 → getD (a ++ b) (8 + i) 0 ≡ getD b i 0
+pub at-next : (a b : List ℕ) (i : ℕ) → length a ≡ 8 → getD (a ++ b) (8 + i) 0 ≡ getD b i 0
 at-next a b i e = subst (λ (n : ℕ). getD (a ++ b) (n + i) 0 ≡ getD b i 0) e (getD-append-add a b i 0)
 
 module _ (p : Packed) where
@@ -46,7 +46,7 @@ module _ (p : Packed) where
 
 module _ (l : List ℕ) (bytes : Bytes l) where
   -- the i-th byte behind the first n
-  part-at : (n i : ℕ) → i < 8 → getD (lowBytes 8 (lowFirst (take 8 (drop n l)))) i 0 ≡ getD l (n + i) 0
+  pub part-at : (n i : ℕ) → i < 8 → getD (lowBytes 8 (lowFirst (take 8 (drop n l)))) i 0 ≡ getD l (n + i) 0
   part-at n i h =
       byte-back 8 (take 8 (drop n l)) i (front 8 (drop n l) (behind n l bytes)) h
       ∙ getD-take 8 (drop n l) i 0 h
@@ -80,100 +80,52 @@ all-back l bytes e =
     let n : length (unpacked (packed l)) ≤ length l = omega (arith, length-unpacked (packed l)) in
     sym (take-all (length l) (unpacked (packed l)) n) ∙ packed-back l bytes (omega arith)
 
--- ---- a byte more
-
--- up to eight bytes
-short : (m : List ℕ) → length m ≤ 8 → packed m ≡ record { low = lowFirst m; mid = 0; high = 0 }
-short m h = rw (take-all 8 m h, drop-of-length-le m {i = 8} h, drop-of-length-le m {i = 16} (omega arith))
-
--- eight bytes in front of others
-onto : (a m : List ℕ) → length a ≡ 8
-    → packed (a ++ m) ≡ record { low = lowFirst a; mid = lowFirst (take 8 m); high = lowFirst (take 8 (drop 8 m)) }
-onto a m e = rw (take-at a m 8 e, ← drop-drop 8 8 (a ++ m), drop-at a m 8 e)
-
-take-behind : (a m : List ℕ) (k : ℕ) → length a ≡ 8 → take (8 + k) (a ++ m) ≡ a ++ take k m
-take-behind a m k e = subst (λ (n : ℕ). take (n + k) (a ++ m) ≡ a ++ take k m) e (take-append-add a m k)
+-- ---- a byte less
 
 front-low : (k v : ℕ) (m : List ℕ) → k ≤ 8 → take k (lowBytes 8 v ++ m) ≡ lowBytes k v
 front-low k v m h = take-append-le k (lowBytes 8 v) m (rw length-low h) ∙ low-take k 8 v h
 
--- what was put is there, behind what stood before it
-pub put-back : (p : Packed) (n b : ℕ) → n < 24 → b < 256
-    → take (n + 1) (unpacked (packed (take n (unpacked p) ++ b ∷ []))) ≡ take n (unpacked p) ++ b ∷ []
-put-back p n b h k =
-    let l = take n (unpacked p) ++ b ∷ [] in
-    let m : length l ≡ n + 1 = rw (length-append, length-take-le n (unpacked p) (omega (arith, length-unpacked p))) in
-    let bytes = joined (take n (unpacked p)) (b ∷ []) (front n (unpacked p) (unpacked-are-bytes p)) (k, tt) in
-    subst (λ (i : ℕ). take i (unpacked (packed l)) ≡ l) m (packed-back l bytes (omega (arith, m)))
+-- the highest place is free for the next number's lowest byte
+lower : (v : ℕ) → v < 256 ^ 8 → v / 256 < 256 ^ 7
+lower v h = omega arith
 
-with-length : (k v b : ℕ) → length (lowBytes k v ++ b ∷ []) ≡ k + 1
-with-length k v b = rw (length-append, length-low)
+onto-lower : (a b : ℕ) → a < 256 ^ 7 → b < 256 → a + b * 256 ^ 7 < 256 ^ 8
+onto-lower a b h k = omega arith
 
-module _ (p : Packed) (b : ℕ) where
-  pub put-low : (k : ℕ) → k < 8
-      → record { low = p .low % 256 ^ k + b * 256 ^ k; mid = 0; high = 0 } ≡ packed (take k (unpacked p) ++ b ∷ [])
-  put-low k h =
-      let m = lowBytes k (p .low) ++ b ∷ [] in
-      let s : length m ≤ 8 = omega (arith, with-length k (p .low) b) in
-      rw (front-low k (p .low) (lowBytes 8 (p .mid) ++ lowBytes 8 (p .high)) (omega arith), short m s, low-with k (p .low) b)
+pub rest-fits : (v w : ℕ) → v < 256 ^ 8 → v / 256 + w % 256 * 256 ^ 7 < 256 ^ 8
+rest-fits v w h = onto-lower (v / 256) (w % 256) (lower v h) (mod-lt w (omega arith))
 
-  module _ (one : p .low < 256 ^ 8) where
-    pub put-mid : (k : ℕ) → k < 8
-        → record { low = p .low; mid = p .mid % 256 ^ k + b * 256 ^ k; high = 0 } ≡ packed (take (8 + k) (unpacked p) ++ b ∷ [])
-    put-mid k h =
-        let a = lowBytes 8 (p .low) in
-        let m = lowBytes k (p .mid) ++ b ∷ [] in
-        let s : length m ≤ 8 = omega (arith, with-length k (p .mid) b) in
-        rw (
-          take-behind a (lowBytes 8 (p .mid) ++ lowBytes 8 (p .high)) k (length-low 8 (p .low)),
-          front-low k (p .mid) (lowBytes 8 (p .high)) (omega arith),
-          append-assoc a (lowBytes k (p .mid)) (b ∷ []),
-          onto a m (length-low 8 (p .low)),
-          low-back 8 (p .low) one,
-          take-all 8 m s,
-          drop-of-length-le m {i = 8} s,
-          low-with k (p .mid) b,
-        )
+-- the seven bytes behind the lowest, and one more
+rest-more : (v b : ℕ) → v < 256 ^ 8 → v / 256 + b * 256 ^ 7 ≡ lowFirst (lowBytes 7 (v / 256) ++ b ∷ [])
+rest-more v b h = sym (low-with 7 (v / 256) b ∙ ap (λ (x : ℕ). x + b * 256 ^ 7) (mod-eq-of-lt (lower v h)))
 
-    module _ (two : p .mid < 256 ^ 8) where
-      pub put-high : (k : ℕ) → k < 8
-          → record { low = p .low; mid = p .mid; high = p .high % 256 ^ k + b * 256 ^ k }
-          ≡ packed (take (8 + (8 + k)) (unpacked p) ++ b ∷ [])
-      put-high k h =
-          let a = lowBytes 8 (p .low) in
-          let c = lowBytes 8 (p .mid) in
-          let m = lowBytes k (p .high) ++ b ∷ [] in
-          let s : length m ≤ 8 = omega (arith, with-length k (p .high) b) in
-          rw (
-            take-behind a (c ++ lowBytes 8 (p .high)) (8 + k) (length-low 8 (p .low)),
-            take-behind c (lowBytes 8 (p .high)) k (length-low 8 (p .mid)),
-            low-take k 8 (p .high) (omega arith),
-            append-assoc a (c ++ lowBytes k (p .high)) (b ∷ []),
-            append-assoc c (lowBytes k (p .high)) (b ∷ []),
-            onto a (c ++ m) (length-low 8 (p .low)),
-            low-back 8 (p .low) one,
-            take-at c m 8 (length-low 8 (p .mid)),
-            low-back 8 (p .mid) two,
-            drop-at c m 8 (length-low 8 (p .mid)),
-            take-all 8 m s,
-            low-with k (p .high) b,
-          )
+module _ (p : Packed) where
+  pub rest-is : p .low < 256 ^ 8 → p .mid < 256 ^ 8 → p .high < 256 ^ 8
+      → record { low = p .low / 256 + p .mid % 256 * 256 ^ 7; mid = p .mid / 256 + p .high % 256 * 256 ^ 7; high = p .high / 256 }
+      ≡ packed (drop 1 (unpacked p))
+  unfolding lowBytes
+  rest-is h k m =
+      let e = rest-more (p .low) (p .mid % 256) h in
+      let f = rest-more (p .mid) (p .high % 256) k in
+      let g = sym (low-back 7 (p .high / 256) (lower (p .high) m)) in
+      λ i. record { low = e i; mid = f i; high = g i }
 
-      -- past the last place there is no room
-      pub put-none : (n : ℕ) → p .high < 256 ^ 8 → 24 ≤ n → p ≡ packed (take n (unpacked p) ++ b ∷ [])
-      put-none n three h =
-          let a = lowBytes 8 (p .low) in
-          let c = lowBytes 8 (p .mid) in
-          let d = lowBytes 8 (p .high) in
-          rw (
-            take-all n (unpacked p) (omega (arith, length-unpacked p)),
-            append-assoc a (c ++ d) (b ∷ []),
-            append-assoc c d (b ∷ []),
-            onto a (c ++ (d ++ b ∷ [])) (length-low 8 (p .low)),
-            low-back 8 (p .low) one,
-            take-at c (d ++ b ∷ []) 8 (length-low 8 (p .mid)),
-            low-back 8 (p .mid) two,
-            drop-at c (d ++ b ∷ []) 8 (length-low 8 (p .mid)),
-            take-at d (b ∷ []) 8 (length-low 8 (p .high)),
-            low-back 8 (p .high) three,
-          )
+  -- of the first n bytes, those behind the first
+  pub rest-front : (n : ℕ) → n < 24 → take n (unpacked (packed (drop 1 (unpacked p)))) ≡ take n (drop 1 (unpacked p))
+  unfolding lowBytes
+  rest-front n h =
+      let l = drop 1 (unpacked p) in
+      let m : length l ≡ 23 = refl in
+      sym (take-take n (length l) (unpacked (packed l)) (omega arith))
+      ∙ ap (take n) (packed-back l (behind 1 (unpacked p) (unpacked-are-bytes p)) (omega arith))
+
+  behind-low : (n : ℕ) → n < 8 → take n (drop 1 (unpacked p)) ≡ lowBytes n (p .low / 256)
+  unfolding lowBytes
+  behind-low n h =
+      take-append-le n (lowBytes 7 (p .low / 256)) (lowBytes 8 (p .mid) ++ lowBytes 8 (p .high)) (rw length-low (omega arith))
+      ∙ low-take n 7 (p .low / 256) (omega arith)
+
+  pub low-rest-front : (n : ℕ) → n < 8
+      → take n (unpacked (record { low = p .low / 256; mid = p .mid; high = p .high })) ≡ take n (drop 1 (unpacked p))
+  low-rest-front n h =
+      front-low n (p .low / 256) (lowBytes 8 (p .mid) ++ lowBytes 8 (p .high)) (omega arith) ∙ sym (behind-low n h)

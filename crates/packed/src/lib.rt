@@ -1,10 +1,12 @@
 // Bytes packed in numbers: the compiled code keeps these in registers, where it would copy an array from place to place.
 ghost use mathlib.Core.Path.{_≡_};
-ghost use mathlib.Core.List.{[], _∷_, _++_};
-ghost use Prim.Native.Nat.{_+_, _*_, _%_, _<_, _^_};
-ghost use lib.ListN.{take, getD};
+ghost use mathlib.Core.List.{[], _∷_};
+ghost use Prim.Native.Nat.{_/_, _<_, _^_};
+ghost use lib.ListN.{drop, getD};
 ghost use Rattle.packed.specs.Numbers.{lowFirst, lowBytes};
 ghost use Rattle.packed.specs.Packed.{unpacked, packed};
+
+mod latest;
 
 // 24 bytes, lowest first: eight in each number.
 pub struct Packed {
@@ -12,6 +14,15 @@ pub struct Packed {
     pub mid: u64,
     pub high: u64,
 }
+
+// Bytes that came one after the other: the latest sixteen, the latest lowest, eight in each number.
+pub struct Tail {
+    pub low: u64,
+    pub high: u64,
+}
+
+// 256 to the power of 7: the place of the highest byte.
+const TOP: u64 = 72057594037927936;
 
 // 256 to this power.
 fn unit(at: usize) -> u64
@@ -21,43 +32,12 @@ fn unit(at: usize) -> u64
     1u64 << (at * 8)
 }
 
-// The number's bytes before a place, this byte there, and zeros past it.
-fn with_byte(number: u64, at: usize, byte: u8) -> u64
-    requires { ⌜ at < 8 ⌝ }
-    ensures { λ r. ⌜ r ≡ number % 256 ^ at + byte * 256 ^ at ⌝ }
-{
-    let u = unit(at);
-    number % u + byte as u64 * u
-}
-
 // The byte at a place.
 fn byte_of(number: u64, at: usize) -> u8
     requires { ⌜ at < 8 ⌝ }
     ensures { λ r. ⌜ r ≡ getD (lowBytes 8 number) at 0 ⌝ }
 {
     (number / unit(at) % 256) as u8
-}
-
-fn eight(number: u64) -> [u8; 8]
-    ensures { λ r. ⌜ r ≡ lowBytes 8 number ⌝ }
-{
-    let b = number / 256;
-    let c = b / 256;
-    let d = c / 256;
-    let e = d / 256;
-    let f = e / 256;
-    let g = f / 256;
-    let h = g / 256;
-    [
-        (number % 256) as u8,
-        (b % 256) as u8,
-        (c % 256) as u8,
-        (d % 256) as u8,
-        (e % 256) as u8,
-        (f % 256) as u8,
-        (g % 256) as u8,
-        (h % 256) as u8,
-    ]
 }
 
 fn four(a: u8, b: u8, c: u8, d: u8) -> u64
@@ -74,6 +54,7 @@ fn number(a: u8, b: u8, c: u8, d: u8, e: u8, f: u8, g: u8, h: u8) -> u64
 }
 
 impl Packed {
+    // No bytes.
     pub fn none() -> Packed
         ensures { λ r. ⌜ r ≡ packed [] ⌝ }
     {
@@ -94,81 +75,32 @@ impl Packed {
         }
     }
 
-    pub fn bytes(self) -> [u8; 24]
-        ensures { λ r. ⌜ r ≡ unpacked self ⌝ }
+    // The first byte.
+    pub fn first(self) -> u8
+        ensures { λ r. ⌜ r ≡ getD (unpacked self) 0 0 ⌝ }
     {
-        let l = eight(self.low);
-        let m = eight(self.mid);
-        let h = eight(self.high);
-        [
-            l[0],
-            l[1],
-            l[2],
-            l[3],
-            l[4],
-            l[5],
-            l[6],
-            l[7],
-            m[0],
-            m[1],
-            m[2],
-            m[3],
-            m[4],
-            m[5],
-            m[6],
-            m[7],
-            h[0],
-            h[1],
-            h[2],
-            h[3],
-            h[4],
-            h[5],
-            h[6],
-            h[7],
-        ]
+        (self.low % 256) as u8
     }
 
-    // The byte at a place, 0 past the last.
-    pub fn at(self, place: usize) -> u8
-        ensures { λ r. ⌜ r ≡ getD (unpacked self) place 0 ⌝ }
+    // The bytes behind the first.
+    pub fn rest(self) -> Packed
+        ensures { λ r. ⌜ r ≡ packed (drop 1 (unpacked self)) ⌝ }
     {
-        if place < 8 {
-            return byte_of(self.low, place);
+        Packed {
+            low: self.low / 256 + self.mid % 256 * TOP,
+            mid: self.mid / 256 + self.high % 256 * TOP,
+            high: self.high / 256,
         }
-        if place < 16 {
-            return byte_of(self.mid, place - 8);
-        }
-        if place < 24 {
-            return byte_of(self.high, place - 16);
-        }
-        0
     }
 
-    // The bytes before a place, this byte there, and zeros past it.
-    pub fn put(self, at: usize, byte: u8) -> Packed
-        ensures { λ r. ⌜ r ≡ packed (take at (unpacked self) ++ byte ∷ []) ⌝ }
+    // The same of the lowest eight alone: the others stay.
+    pub fn low_rest(self) -> Packed
+        ensures { λ r. ⌜ r ≡ record { low = self .low / 256; mid = self .mid; high = self .high } ⌝ }
     {
-        if at < 8 {
-            return Packed {
-                low: with_byte(self.low, at, byte),
-                mid: 0,
-                high: 0,
-            };
+        Packed {
+            low: self.low / 256,
+            mid: self.mid,
+            high: self.high,
         }
-        if at < 16 {
-            return Packed {
-                low: self.low,
-                mid: with_byte(self.mid, at - 8, byte),
-                high: 0,
-            };
-        }
-        if at < 24 {
-            return Packed {
-                low: self.low,
-                mid: self.mid,
-                high: with_byte(self.high, at - 16, byte),
-            };
-        }
-        self
     }
 }

@@ -8,7 +8,7 @@ use lib.ListN.{getD}
 use Rattle.record.specs.Bytes.{entriesOf, noEntry}
 use Rattle.cursor.specs.declared.Taken.{Taken}
 use Rattle.cursor.proofs.Places.{moves}
-use Rattle.marker.specs.Steps.{stepped, Steps}
+use Rattle.marker.specs.Steps.{stepped, Steps, fillsBlock}
 use Rattle.marker.specs.Marks.{Leads}
 use Rattle.marker.proofs.Judged.{no-start, start}
 use Rattle.marker.proofs.pass.Statement.{statement}
@@ -29,7 +29,7 @@ steps : (c : tie.Else1 Inv-loop μ-loop) → (let x = c .before .before in
 steps c =
     let x = c .before .before in
     subst (λ (t : Taken). Steps (x .before .before .before .loop .marker) (t .entry) (stepped (x .light .result)))
-    (x .before .take .ensures) (x .light .ensures (not-false _ (c .if1 .left)))
+    (x .before .take .ensures) (x .light .ensures .0 (not-false _ (c .if1 .left)))
 
 -- the cursor stands one on
 onward : (c : tie.After-take Inv-loop μ-loop) → c .take .result .place ≡ c .before .before .loop .place + 1
@@ -51,7 +51,12 @@ same-length : tie.Need-same-length Inv-loop μ-loop
 same-length c = search needs
 
 returns : tie.Need-returns Inv-loop μ-loop
-returns c = c .before .before .before .before .before .loop .inv
+returns c =
+    let x = c .before .before in
+    let l = x .before .before .before in
+    let v = l .loop .inv in
+    let e = x .light .ensures .1 ∙ ap (λ (t : Taken). fillsBlock (l .loop .marker) (t .entry)) (x .before .take .ensures) in
+    (v .0, v .1, v .2, λ _. e)
 
 cast-table : tie.Need-cast-table Inv-loop μ-loop
 cast-table c = search needs
@@ -103,7 +108,9 @@ same-length-2 : tie.Need-same-length-2 Inv-loop μ-loop
 same-length-2 c = search needs
 
 returns-2 : tie.Need-returns-2 Inv-loop μ-loop
-returns-2 c = c .before .loop .inv
+returns-2 c =
+    let v = c .before .loop .inv in
+    (v .0, v .1, v .2, λ h. absurd (omega arith))
 
 pub pass-spec : {M : Type 1} → statement M
 pass-spec =

@@ -1,6 +1,6 @@
 -- `run` meets its contract.
 use Prim.Native.Nat.{_+_, _-_, _≤_, _<_}
-use mathlib.Core.Path.{_≡_, refl, ap, _∙_, subst}
+use mathlib.Core.Path.{_≡_, refl, sym, ap, _∙_, subst}
 use native.Mathlib.Omega.{arith}
 use borrow.Author.Needs.{needs}
 use lib.ListN.{length, getD}
@@ -8,7 +8,7 @@ use Rattle.record.specs.Bytes.{entriesOf, noEntry}
 use Rattle.record.proofs.Bytes.{length-entries}
 use Rattle.cursor.specs.declared.Taken.{Taken}
 use Rattle.cursor.proofs.Places.{moves}
-use Rattle.marker.specs.Steps.{Steps}
+use Rattle.marker.specs.Steps.{Steps, fillsBlock}
 use Rattle.marker.specs.Marks.{Leads}
 use Rattle.marker.proofs.Judged.{begins-so, from-here, across, ended, faulty, no-start, start}
 use Rattle.marker.proofs.run.Statement.{statement}
@@ -38,12 +38,12 @@ room c =
     (omega (arith, v .within, f .0), omega (arith, v .few, v .size, h, f), omega (arith, v .few, v .within, h, f .0))
 
 -- the entry is that of the record
-stepped : (c : tie.After-step Inv-loop μ-loop) → (let p = c .before .before .before .before .before .before in
+stepped : (c : tie.After-go Inv-loop μ-loop) → (let p = c .before .before .before .before .before .before in
     let bytes = p .before .before .before .before .before .before .before .args .bytes .now in
-    Steps (p .pass .result .marker) (getD (entriesOf bytes) (p .pass .result .place) noEntry) (c .step .result))
+    Steps (p .pass .result .marker) (getD (entriesOf bytes) (p .pass .result .place) noEntry) (c .go .result))
 stepped c =
     let p = c .before .before .before .before .before .before in
-    subst (λ (t : Taken). Steps (p .pass .result .marker) (t .entry) (c .step .result)) (c .before .take .ensures) (c .step .ensures)
+    subst (λ (t : Taken). Steps (p .pass .result .marker) (t .entry) (c .go .result)) (c .before .take .ensures) (c .go .ensures)
 
 -- the cursor stands one on
 onward : (c : tie.After-take Inv-loop μ-loop)
@@ -67,8 +67,11 @@ pass-requires c κs = (search needs, search needs, from-here (c .before .before 
 take-requires : tie.Need-take-requires Inv-loop μ-loop
 take-requires c κs = search needs
 
-step-requires : tie.Need-step-requires Inv-loop μ-loop
-step-requires c κs = search needs
+go-requires : tie.Need-go-requires Inv-loop μ-loop
+go-requires c κs =
+    let p = c .before .before .before .before .before in
+    p .pass .ensures .3 (c .before .if1 .taken)
+    ∙ sym (ap (λ (x : Taken). fillsBlock (p .pass .result .marker) (x .entry)) (c .take .ensures))
 
 same-length : tie.Need-same-length Inv-loop μ-loop
 same-length c = passed (c .before .before .before .before .before .before .before .before) .size
@@ -83,7 +86,7 @@ returns c =
     record {
       no = refl;
       verdict = faulty (a .bytes .now) (a .table .now) (p .pass .last .1 .0) (r .marker) (r .count) (r .place) v
-          (s .before .before .if1 .taken) (s .step .result) (stepped s) (c .if2 .taken);
+          (s .before .before .if1 .taken) (s .go .result) (stepped s) (c .if2 .taken);
       few = omega (arith, v .few, v .within, length-entries (a .bytes .now));
       rest = v .rest;
     }
@@ -113,7 +116,7 @@ loop-again c =
     let r = p .pass .result in
     rw (onward (s .before))
     (start (a .bytes .now) (a .table .now) (p .pass .last .1 .0) (r .marker) (r .count) (r .place) (passed p)
-    (s .before .before .if1 .taken) (s .step .result) (stepped s) (c .before .before .if2 .left) (c .if3 .taken) (room c .1))
+    (s .before .before .if1 .taken) (s .go .result) (stepped s) (c .before .before .if2 .left) (c .if3 .taken) (room c .1))
 
 loop-less-2 : tie.Need-loop-less-2 Inv-loop μ-loop
 loop-less-2 c =
@@ -128,7 +131,7 @@ loop-again-2 c =
     let r = p .pass .result in
     rw (onward (s .before))
     (no-start (a .bytes .now) (a .table .now) (p .pass .last .1 .0) (r .marker) (r .count) (r .place) (passed p)
-    (s .before .before .if1 .taken) (s .step .result) (stepped s) (c .before .before .if2 .left) (c .if3 .left))
+    (s .before .before .if1 .taken) (s .go .result) (stepped s) (c .before .before .if2 .left) (c .if3 .left))
 
 loop-less-3 : tie.Need-loop-less-3 Inv-loop μ-loop
 loop-less-3 c =
@@ -166,7 +169,7 @@ run-spec =
     loop-holds
     pass-requires
     take-requires
-    step-requires
+    go-requires
     same-length
     returns
     cast-table

@@ -64,7 +64,8 @@ returns-3 c =
     let h = c .before .before .heard in
     takes (a .self) (byte (a .time) (a .content) (a .flags)) (a .out .now) (n .result) (n .ensures) (h .result) _ (e .if1 .left)
     (rw (byte-in-time (view (a .self)) (a .time) (a .content) (a .flags)
-    (sym (t .timed-out .ensures) ∙ c .before .before .before .before .if2 .left)) (h .ensures .0)) (λ m. h .ensures .1 (made-so _ _ refl refl m))
+    (sym (t .timed-out .ensures) ∙ c .before .before .before .before .if2 .left)) (h .ensures .0))
+    (λ m. h .ensures .1 (made-so _ _ refl refl refl m))
 
 pub byte-spec : {M : Type 1} → statement M
 byte-spec =

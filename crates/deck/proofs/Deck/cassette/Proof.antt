@@ -51,7 +51,7 @@ returns-2 c =
     (rw (answers-other (view (a .self)) (cassette (a .time)) tt)
     (resettled loaded (a .time) (looked (view (a .self)) (a .time)) (a .out .now) _ (l .result) (r .result)
     (l .ensures .0) (rw (c .before .load .ensures) at (r .ensures))))
-    (λ m. r .ensures .5 (l .ensures .1 (made-so _ _ refl refl m)))
+    (λ m. r .ensures .5 (l .ensures .1 (made-so _ _ refl refl refl m)))
 
 pub cassette-spec : {M : Type 1} → statement M
 cassette-spec =

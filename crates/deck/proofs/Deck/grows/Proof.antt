@@ -1,6 +1,5 @@
 -- `Deck::grows` meets its contract: the tests of the code come to those of the definition.
 use mathlib.Core.Path.{sym, _∙_}
-use native.Mathlib.Omega.{arith}
 use borrow.Author.Needs.{needs}
 use Rattle.deck.proofs.Joining.{grows-dropped, grows-first, grows-late, grows-inside}
 use Rattle.deck.proofs.Deck.grows.Statement.{statement}
@@ -24,35 +23,18 @@ returns-3 c = λ b.
     let a = l .before .before .before .before .before .args in
     grows-late (a .self) (a .time) b (sym (l .timed-out .ensures) ∙ c .if3 .taken)
 
-at-requires : tie.Need-at-requires
-at-requires c κs = search needs
-
-size-requires : tie.Need-size-requires
-size-requires c κs = search needs
-
-sub-result : tie.Need-sub-result
-sub-result c = omega (arith, c .size .ensures)
+add-result : tie.Need-add-result
+add-result c = search needs
 
 returns-4 : tie.Need-returns-4
 returns-4 c = λ b.
-    let s = c .before in
-    let i = s .before .before .before in
+    let i = c .before .before in
     let l = i .before in
     let o = l .before in
     let f = o .before .before in
     let a = f .before .before .args in
-    rw (s .size .ensures, s .before .at .ensures)
-    (grows-inside (a .self) (a .time) b (f .if1 .left) (sym (l .timed-out .ensures) ∙ i .if3 .left) (o .if2 .left))
+    grows-inside (a .self) (a .time) b (f .if1 .left) (sym (l .timed-out .ensures) ∙ i .if3 .left) (o .if2 .left)
 
 pub grows-spec : {M : Type 1} → statement M
 grows-spec =
-    tie.close
-    (tie.spec
-    returns
-    returns-2
-    timed-out-requires
-    returns-3
-    at-requires
-    size-requires
-    sub-result
-    returns-4)
+    tie.close (tie.spec returns returns-2 timed-out-requires returns-3 add-result returns-4)

@@ -42,7 +42,7 @@ returns-3 c =
     let t = c .before .before .before .before in
     let a = t .before .before .before .before .args in
     let n = c .before .before .clean .ensures in
-    (rw (byte-clean (view (a .self)) (a .time) (a .content) (a .flags) (t .before .if1 .left) (t .if2 .left)) (n .0), λ _. n .1)
+    (rw (byte-clean (view (a .self)) (a .time) (a .content) (a .flags) (t .before .if1 .left) (t .if2 .left)) (n .0), n .1)
 
 pub heard-spec : {M : Type 1} → statement M
 heard-spec =

@@ -38,7 +38,7 @@ returns-2 c =
     let n = t .before .refusal in
     let l = c .before .before .looked in
     takes (a .self) (look (a .time)) (a .out .now) (n .result) (n .ensures) (l .result) _ (t .if1 .left)
-    (rw (look-alone (view (a .self)) (a .time)) (l .ensures .0)) (λ m. l .ensures .1 (made-so _ _ refl refl m))
+    (rw (look-alone (view (a .self)) (a .time)) (l .ensures .0)) (λ m. l .ensures .1 (made-so _ _ refl refl refl m))
 
 pub look-spec : {M : Type 1} → statement M
 look-spec =

@@ -47,7 +47,7 @@ returns-2 c =
     takes (a .self) (position (a .time) (a .place)) (a .out .now) (n .result) (n .ensures) (r .result) _ (t .if1 .left)
     (rw (answers-other (view (a .self)) (position (a .time) (a .place)) tt)
     (resettled (withPosition (a .place)) (a .time) (looked (view (a .self)) (a .time)) (a .out .now) _ (l .result) (r .result)
-    (l .ensures .0) (r .ensures))) (λ m. r .ensures .5 (l .ensures .1 (made-so _ _ refl refl m)))
+    (l .ensures .0) (r .ensures))) (λ m. r .ensures .5 (l .ensures .1 (made-so _ _ refl refl refl m)))
 
 pub position-spec : {M : Type 1} → statement M
 position-spec =

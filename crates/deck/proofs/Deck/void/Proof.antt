@@ -15,10 +15,10 @@ add-self : tie.Need-add-self
 add-self c = search needs
 
 returns : tie.Need-returns
-returns c = (rw (← c .before .opens-quiet .ensures, c .if1 .taken), refl, made-shut _ refl (c .before .before .none .ensures))
+returns c = (rw (← c .before .opens-quiet .ensures, c .if1 .taken), refl, made-shut _ refl refl (c .before .before .none .ensures))
 
 returns-2 : tie.Need-returns-2
-returns-2 c = (rw (← c .before .opens-quiet .ensures, c .if1 .left), refl, made-shut _ refl (c .before .before .none .ensures))
+returns-2 c = (rw (← c .before .opens-quiet .ensures, c .if1 .left), refl, made-shut _ refl refl (c .before .before .none .ensures))
 
 pub void-spec : {M : Type 1} → statement M
 void-spec = tie.close (tie.spec none-requires opens-quiet-requires add-self returns returns-2)

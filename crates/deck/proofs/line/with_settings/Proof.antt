@@ -5,7 +5,7 @@ use Rattle.deck.proofs.line.with_settings.Statement.{statement}
 use Rattle.deck.proofs.line.with_settings.Tie as tie
 
 returns : tie.Need-returns
-returns c = (refl, refl, refl, refl, refl, made-so _ _ refl refl)
+returns c = (refl, refl, refl, refl, refl, made-so _ _ refl refl refl)
 
 pub with-settings-spec : {M : Type 1} → statement M
 with-settings-spec = tie.close (tie.spec returns)

@@ -1,5 +1,6 @@
 -- `answers::carry` meets its contract.
 use mathlib.Core.Path.{_∙_}
+use Rattle.execute.specs.Body.{dataIn}
 use Rattle.execute.proofs.Carried.{as-shown, carry-undefined, carry-device, carry-point, carry-kind}
 use borrow.Author.Needs.{needs}
 use Rattle.execute.proofs.answers.carry.Statement.{statement}
@@ -49,9 +50,10 @@ same-length c = search needs
 
 returns : tie.Need-returns
 returns c =
-    let a = c .before .before .before .before .before .before .before .before .args in
+    let a = c .before .before .before .before .before .before .before .args in
+    let bytes = dataIn (a .body) in
     as-shown (a .out .now)
-    (carry-kind (a .s) (a .«data» .now) _ _ (c .before .before .before .before .enum-told .given .1) ∙ carry-undefined (a .s) (a .«data» .now))
+    (carry-kind (a .s) bytes _ _ (c .before .before .before .before .enum-told .given .1) ∙ carry-undefined (a .s) bytes)
     (c .before .before .refuse .ensures)
 
 same-length-2 : tie.Need-same-length-2
@@ -59,9 +61,10 @@ same-length-2 c = search needs
 
 returns-2 : tie.Need-returns-2
 returns-2 c =
-    let a = c .before .before .before .before .before .before .before .before .before .args in
+    let a = c .before .before .before .before .before .before .before .before .args in
+    let bytes = dataIn (a .body) in
     as-shown (a .out .now)
-    (carry-kind (a .s) (a .«data» .now) _ _ (c .before .before .before .before .before .kind .given .1))
+    (carry-kind (a .s) bytes _ _ (c .before .before .before .before .before .kind .given .1))
     (c .before .before .acknowledge .ensures)
 
 same-length-3 : tie.Need-same-length-3
@@ -69,9 +72,10 @@ same-length-3 c = search needs
 
 returns-3 : tie.Need-returns-3
 returns-3 c =
-    let a = c .before .before .before .before .before .before .before .before .before .args in
+    let a = c .before .before .before .before .before .before .before .before .args in
+    let bytes = dataIn (a .body) in
     as-shown (a .out .now)
-    (carry-kind (a .s) (a .«data» .now) _ _ (c .before .before .before .before .before .enum-told2 .given .1) ∙ carry-device (a .s) (a .«data» .now))
+    (carry-kind (a .s) bytes _ _ (c .before .before .before .before .before .enum-told2 .given .1) ∙ carry-device (a .s) bytes)
     (c .before .before .answer .ensures)
 
 same-length-4 : tie.Need-same-length-4
@@ -79,9 +83,10 @@ same-length-4 c = search needs
 
 returns-4 : tie.Need-returns-4
 returns-4 c =
-    let a = c .before .before .before .before .before .before .before .before .before .args in
+    let a = c .before .before .before .before .before .before .before .before .args in
+    let bytes = dataIn (a .body) in
     as-shown (a .out .now)
-    (carry-kind (a .s) (a .«data» .now) _ _ (c .before .before .before .before .before .kind2 .given .1) ∙ carry-point (a .s) (a .«data» .now) _)
+    (carry-kind (a .s) bytes _ _ (c .before .before .before .before .before .kind2 .given .1) ∙ carry-point (a .s) bytes _)
     (c .before .before .point-time .ensures)
 
 same-length-5 : tie.Need-same-length-5
@@ -89,9 +94,10 @@ same-length-5 c = search needs
 
 returns-5 : tie.Need-returns-5
 returns-5 c =
-    let a = c .before .before .before .before .before .before .before .before .args in
+    let a = c .before .before .before .before .before .before .before .args in
+    let bytes = dataIn (a .body) in
     as-shown (a .out .now)
-    (carry-kind (a .s) (a .«data» .now) _ _ (c .before .before .before .before .enum-told3 .given .1))
+    (carry-kind (a .s) bytes _ _ (c .before .before .before .before .enum-told3 .given .1))
     (c .before .before .tape-time .ensures)
 
 same-length-6 : tie.Need-same-length-6
@@ -99,9 +105,10 @@ same-length-6 c = search needs
 
 returns-6 : tie.Need-returns-6
 returns-6 c =
-    let a = c .before .before .before .before .before .before .before .before .args in
+    let a = c .before .before .before .before .before .before .before .args in
+    let bytes = dataIn (a .body) in
     as-shown (a .out .now)
-    (carry-kind (a .s) (a .«data» .now) _ _ (c .before .before .before .before .enum-told4 .given .1))
+    (carry-kind (a .s) bytes _ _ (c .before .before .before .before .enum-told4 .given .1))
     (c .before .before .status .ensures)
 
 pub carry-spec : {M : Type 1} → statement M

@@ -24,9 +24,10 @@ returns : tie.Need-returns
 returns c =
     let k = c .before .before .before .before .before .before .before .before in
     let a = k .before .before .before .args in
+    let code = c .before .before .before .before .before .before .before .point-code in
     as-shown (a .out .now)
-    (point-read (a .which) (a .s) [] (c .before .before .before .before .before .before .before .point-code .result) (k .before .point .result) (k .time .result)
-    (c .before .before .before .before .before .before .before .point-code .ensures) (k .before .point .ensures) (k .time .ensures))
+    (point-read (a .which) (a .s) [] (code .result) (k .before .point .result) (k .time .result)
+    (code .ensures) (k .before .point .ensures) (k .time .ensures))
     (c .before .before .answer .ensures)
 
 pub point-time-spec : {M : Type 1} → statement M

@@ -2,14 +2,19 @@
 use mathlib.Core.Path.{_≡_}
 use mathlib.Core.Logic.{⊎-elim}
 use borrow.Author.Tests.{eq-eqb, ne-eqb, ltb-true, ltb-false}
+use lib.ListN.{getD}
+use Rattle.execute.specs.Body.{dataIn}
 use Rattle.execute.specs.Execute.{timeCode}
-use Rattle.execute.proofs.Carried.{as-shown, time-read, time-under, time-over}
+use Rattle.execute.proofs.Carried.{as-shown, first-in, time-read, time-under, time-over}
 use borrow.Author.Needs.{needs}
 use Rattle.execute.proofs.answers.tape_time.Statement.{statement}
 use Rattle.execute.proofs.answers.tape_time.Tie as tie
 
-first-requires : tie.Need-first-requires
-first-requires c κs = search needs
+data-requires : tie.Need-data-requires
+data-requires c κs = search needs
+
+array-read-n : tie.Need-array-read-n
+array-read-n c = search needs
 
 refuse-requires : tie.Need-refuse-requires
 refuse-requires c κs = search needs
@@ -19,12 +24,13 @@ same-length c = search needs
 
 returns : tie.Need-returns
 returns c =
-    let k = c .before .before .before .before .before in
-    let a = k .before .before .before .args in
-    let n = k .first .result in
+    let a = c .before .before .before .before .before .before .before .args in
+    let d = c .before .before .before .before .before .«data» in
+    let n = getD (d .result) 0 0 in
+    let first = first-in (d .ensures) in
     as-shown (a .out .now)
-    (⊎-elim (λ w. time-under (a .s) (a .«data» .now) n (k .first .ensures) (w .taken))
-    (λ w. time-over (a .s) (a .«data» .now) n (k .first .ensures) (w .0 .left) (ltb-true 4 n (w .1 .taken)))
+    (⊎-elim (λ w. time-under (a .s) (dataIn (a .body)) n first (w .taken))
+    (λ w. time-over (a .s) (dataIn (a .body)) n first (w .0 .left) (ltb-true 4 n (w .1 .taken)))
     (c .before .before .before .before .if1 .came))
     (c .before .before .refuse .ensures)
 
@@ -39,24 +45,26 @@ same-length-2 c = search needs
 
 returns-2 : tie.Need-returns-2
 returns-2 c =
-    let k = c .before .before .before .before .before .before .before .before .before .before .before in
-    let a = k .before .before .before .args in
-    let n = k .first .result in
+    let a = c .before .before .before .before .before .before .before .before .before .before .before .before .before .args in
+    let d = c .before .before .before .before .before .before .before .before .before .before .before .«data» in
+    let n = getD (d .result) 0 0 in
     let j = c .before .before .before .before .before .before .before in
+    let t = j .before .time in
     let code : j .if3 .code ≡ timeCode n =
     ⊎-elim (λ w. rw (eq-eqb n 2 (w .0 .taken)) (w .1)) (λ w. rw (ne-eqb n 2 (w .0 .left)) (w .1)) (j .if3 .came) in
     as-shown (a .out .now)
-    (time-read (a .s) (a .«data» .now) n (k .first .ensures) (j .if3 .code) (j .before .time .result)
-    (c .before .before .before .before .before .before .before .before .before .before .if1 .left)
-    (ltb-false 4 n (c .before .before .before .before .before .before .before .before .before .if2 .left))
-    code (j .before .time .ensures))
+    (time-read (a .s) (dataIn (a .body)) n (first-in (d .ensures)) (j .if3 .code) (t .result)
+    (j .before .before .before .if1 .left)
+    (ltb-false 4 n (j .before .before .if2 .left))
+    code (t .ensures))
     (c .before .before .answer .ensures)
 
 pub tape-time-spec : {M : Type 1} → statement M
 tape-time-spec =
     tie.close
     (tie.spec
-    first-requires
+    data-requires
+    array-read-n
     refuse-requires
     same-length
     returns

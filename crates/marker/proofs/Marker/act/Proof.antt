@@ -15,7 +15,8 @@ hear-requires : tie.Need-hear-requires
 hear-requires c κs =
     let s = c .before .before .before in
     let e = s .args .e in
-    (s .pre .1, formed-time e (s .pre .0), formed-controller e (s .pre .0) (c .before .if1 .taken) .0, s .pre .2)
+    let k = c .before .if1 .taken in
+    (s .pre .1, formed-time e (s .pre .0), formed-controller e (s .pre .0) k .0, s .pre .2, s .pre .3 k)
 
 returns : tie.Need-returns
 returns c =

@@ -4,7 +4,6 @@ use mathlib.Core.Bool.{false}
 use native.Mathlib.Omega.{arith}
 use borrow.Author.Needs.{needs}
 use borrow.Author.Tests.{eqb-true, not-false}
-use Rattle.packed.specs.Packed.{unpacked}
 use Rattle.marker.proofs.Tests.{shut}
 use Rattle.marker.proofs.Passing.{untaken}
 use Rattle.marker.proofs.Marker.comes.Statement.{statement}
@@ -49,7 +48,7 @@ returns-6 c = λ p.
     record {
       range = omega (arith, r .if1 .left);
       order = t .if2 .left;
-      shut = shut (d .held) (unpacked (d .block)) (s .if3 .left);
+      shut = shut (d .held) (d .first) (d .tail) (s .if3 .left);
       awaits = sym (y .any .ensures) ∙ not-false _ (o .if4 .left);
       soon = l .if5 .left;
       next = q ∙ n .next .ensures;

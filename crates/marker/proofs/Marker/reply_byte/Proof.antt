@@ -1,5 +1,8 @@
 -- `Marker::reply_byte` meets its contract.
+use mathlib.Core.Path.{_∙_}
+use native.Mathlib.Omega.{arith}
 use borrow.Author.Needs.{needs}
+use Rattle.marker.proofs.Filled.{unfilled-kind}
 use borrow.Author.Tests.{not-false}
 use Rattle.marker.specs.Steps.{Expected}
 use Rattle.marker.proofs.Passing.{untaken, arrives}
@@ -16,17 +19,22 @@ heavy-requires : tie.Need-heavy-requires
 heavy-requires c κs = search needs
 
 returns : tie.Need-returns
-returns c = untaken _ (c .heavy .ensures)
+returns c =
+    let s = c .before .before .before in
+    let a = s .args in
+    (untaken _ (c .heavy .ensures .0), c .heavy .ensures .1 ∙ unfilled-kind (a .self) (a .e) (λ z. omega (arith, s .pre .0)))
 
 taken-requires : tie.Need-taken-requires
 taken-requires c κs = expected (c .before .before) .range
 
 returns-2 : tie.Need-returns-2
-returns-2 c = λ p.
+returns-2 c =
     let x = c .before .before .before in
     let s = x .before .before in
-    let a = s .args in
-    arrives (a .self) (a .e) (s .pre .1) (s .pre .0) (expected x) (c .taken .result) (c .taken .ensures)
+    let a = s .args in (
+      λ p. arrives (a .self) (a .e) (s .pre .1) (s .pre .0) (expected x) (c .taken .result) (c .taken .ensures),
+      unfilled-kind (a .self) (a .e) (λ z. omega (arith, s .pre .0)),
+    )
 
 pub reply-byte-spec : {M : Type 1} → statement M
 reply-byte-spec =

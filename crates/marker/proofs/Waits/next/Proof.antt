@@ -1,21 +1,19 @@
 -- `Waits::next` meets its contract.
-use mathlib.Core.Path.{sym, ap, _∙_}
-use mathlib.Core.List.{List}
-use Prim.Native.Nat.{ℕ}
-use lib.ListN.{getD}
+use mathlib.Core.Path.{sym, _∙_}
+use native.Mathlib.Omega.{arith}
 use borrow.Author.Needs.{needs}
-use Rattle.marker.proofs.Left.{none-left, next-left}
+use Rattle.marker.proofs.Left.{next-left}
 use Rattle.marker.proofs.Waits.next.Statement.{statement}
 use Rattle.marker.proofs.Waits.next.Tie as tie
 
 returns : tie.Need-returns
-returns c = sym (ap (λ (l : List ℕ). getD l 0 0) (none-left (c .before .before .args .self) (c .if1 .taken)))
+returns c = search needs
 
-at-requires : tie.Need-at-requires
-at-requires c κs = search needs
+first-requires : tie.Need-first-requires
+first-requires c κs = search needs
 
 returns-2 : tie.Need-returns-2
-returns-2 c = c .at .ensures ∙ sym (next-left (c .before .before .before .before .args .self) (c .before .before .if1 .left))
+returns-2 c = c .first .ensures ∙ sym (next-left (c .before .before .before .before .args .self) (omega arith))
 
 pub next-spec : {M : Type 1} → statement M
-next-spec = tie.close (tie.spec returns at-requires returns-2)
+next-spec = tie.close (tie.spec returns first-requires returns-2)
