@@ -15,7 +15,7 @@ use Rattle.marker.specs.Marks.{nothing, Marks}
 use Rattle.marker.proofs.Taken.{fitting}
 
 -- the table has a place for each start that is counted
-starts-fit : {bytes before after : List ℕ} {r : Marked} → length after ≡ length before → Marks bytes before r after → r .no ≡ 0
+pub starts-fit : {bytes before after : List ℕ} {r : Marked} → length after ≡ length before → Marks bytes before r after → r .no ≡ 0
     → length (take (r .count) after) ≡ r .count
 starts-fit {bytes} {before} {after} {r} l a z =
     length-take-le (r .count) after

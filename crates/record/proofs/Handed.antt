@@ -19,7 +19,7 @@ acted-tape zero d e = acted-other d (position (e .time) (e .content)) tt
 acted-tape (suc k) d e = acted-other d (cassette (e .time)) tt
 
 -- the deck is handed an entry at its time
-handed-time : (k : ℕ) (e : Entry) → timeOf (handedAs k e) ≡ e .time
+pub handed-time : (k : ℕ) (e : Entry) → timeOf (handedAs k e) ≡ e .time
 handed-time zero e = refl
 handed-time (suc zero) e = refl
 handed-time (suc (suc zero)) e = refl
@@ -35,7 +35,7 @@ pub after-is : (d : Deck) (e : Entry) (L E : Answer) → looked d (e .time) ≡ 
 unfolding afterEntry
 after-is d e L E p q = ap (λ (A : Answer). A .deck) (answered-is d e L E p q)
 
-says-is : (d : Deck) (e : Entry) (L E : Answer) → looked d (e .time) ≡ L → acted (L .deck) (handed e) ≡ E
+pub says-is : (d : Deck) (e : Entry) (L E : Answer) → looked d (e .time) ≡ L → acted (L .deck) (handed e) ≡ E
     → saysTo d e ≡ L .replies ++ E .replies
 unfolding saysTo
 says-is d e L E p q = ap (λ (A : Answer). A .replies) (answered-is d e L E p q)

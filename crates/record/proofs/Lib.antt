@@ -1,6 +1,6 @@
 -- The turn theorem: the automaton that reads a record, against the turn rules. From the rules to the automaton: Coming to Turned;
 -- back: Pieces to Sounds; further entries: Sane, Extends; the fault numbers: Awaiting, Faults; the whole: Walk, Theorem; that it
--- is the only answer: Unique.
+-- is the only answer: Unique; how many turns: Counts.
 pub mod Handed
 pub mod Lists
 pub mod Readings
@@ -19,10 +19,12 @@ pub mod Faults
 pub mod Walk
 pub mod Theorem
 pub mod Unique
+pub mod Counts
 -- an entry by its kind: well formed, handed to the deck
 pub mod Forms
 pub mod ByKind
 -- entries as bytes
 pub mod Bytes
 pub mod Records
+pub mod Fitting
 pub mod Examples

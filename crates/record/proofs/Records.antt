@@ -1,7 +1,7 @@
 -- Records as lists of entries: of two pieces, and read and written as a whole.
 use Prim.Native.Nat.{ℕ, zero, suc, _*_, _/_, _≤_}
 use mathlib.Core.Path.{_≡_, refl, sym, ap, _∙_}
-use mathlib.Core.List.{List, [], _∷_, _++_}
+use mathlib.Core.List.{List, [], _∷_, _++_, append-nil, append-assoc}
 use native.Mathlib.Omega.{arith}
 use lib.ListN.{length, take, drop, length-append, length-drop, take-append-drop}
 use lib.Seq.{take-at, drop-at, take-append-le, drop-append-le, length-take-le}
@@ -67,6 +67,24 @@ pub length-bytes : (e : Entry) → length (bytesOf e) ≡ 12
 unfolding bytesOf
 length-bytes e =
     omega (arith, length-append (lowBytes 4 (e .content)) (lowBytes 6 (e .time)), length-low 4 (e .content), length-low 6 (e .time))
+
+pub length-record : (es : List Entry) → length (recordOf es) ≡ 12 * length es
+unfolding recordOf
+length-record [] = refl
+length-record (e ∷ es) = rw (length-append, length-bytes e, length-record es) (omega arith)
+
+pub record-none : recordOf [] ≡ []
+unfolding recordOf
+record-none = refl
+
+pub record-one : (e : Entry) → recordOf (e ∷ []) ≡ bytesOf e
+unfolding recordOf
+record-one e = append-nil (bytesOf e)
+
+pub record-append : (a b : List Entry) → recordOf (a ++ b) ≡ recordOf a ++ recordOf b
+unfolding recordOf
+record-append [] b = refl
+record-append (e ∷ a) b = rw (record-append a b, append-assoc)
 
 -- an entry written before others
 entry-more : (e : Entry) (b : List ℕ) → InBytes e → entriesOf (bytesOf e ++ b) ≡ e ∷ entriesOf b

@@ -1,0 +1,2 @@
+-- What the contracts of `complete` mean.
+pub mod Printed
