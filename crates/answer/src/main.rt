@@ -1,9 +1,15 @@
 // Reads a line record from standard input and prints what the deck says to its entries, and how it stands after them.
+#![tactic(auto)]
+
 ghost use Rattle.std.specs.Prelude.{◌≤◌, ◌≡◌, length, take};
 ghost use Rattle.io.specs.Counts.{IsPrefixLen};
 ghost use Rattle.report.specs.Transcript.{transcript, room_for};
 
-use libc::{STDERR_FILENO, STDIN_FILENO, STDOUT_FILENO};
+use std::env::FillError;
+use std::io::Read;
+use std::rt::Env;
+
+const ROOM: usize = 589916;
 
 // What is printed for these bytes, at the front of the output; returns its length.
 fn answer(bytes: &[u8], out: &mut [u8]) -> usize
@@ -15,36 +21,43 @@ fn answer(bytes: &[u8], out: &mut [u8]) -> usize
     written.len
 }
 
-// Whether the input is at its end: a further read brings nothing. It brings something, or fails, where an earlier one had failed.
-fn ended() -> bool {
-    let mut more = [0u8; 1];
-    libc::read(STDIN_FILENO, &mut more) == 0
+// The output, with room for the longest transcript, that of 5,461 entries.
+fn blank() -> [u8; ROOM] {
+    [0; ROOM]
 }
 
-// Of a record that is longer than the buffer 65,536 bytes are read: too many, so it is refused all the same. The output has room
-// for the longest transcript, that of 5,461 entries.
-fn run() {
-    let mut buf = io::large_buffer();
-    let n = io::read_full(STDIN_FILENO, &mut buf);
-    if n < 65536 && !ended() {
-        io::write_all(STDERR_FILENO, b"answer: not all could be read\n");
+// Whether the input is at its end: a further read brings nothing.
+fn ended(input: &mut impl Read) -> bool {
+    let mut more = [0u8; 1];
+    matches!(input.read(&mut more), Ok(0))
+}
+
+// Of a record that is longer than the buffer 65,536 bytes are read: too many, so it is refused all the same.
+fn run(rt: &(impl Print + Eprint), input: &mut impl Read) {
+    let mut buf = [0u8; 65536];
+    let came = streams::read_full(input, &mut buf);
+    if came.failed || came.count < 65536 && !ended(input) {
+        let _ = rt.eprintln("answer: not all could be read");
         return;
     }
-    let mut out = [0u8; 589916];
-    let len = answer(&buf[..n], &mut out);
-    if !io::write_all(STDOUT_FILENO, &out[..len]) {
-        io::write_all(STDERR_FILENO, b"answer: not all could be written\n");
+    let mut out = blank();
+    let len = answer(&buf[..came.count], &mut out);
+    if rt.write_all(&out[..len]).is_err() {
+        let _ = rt.eprintln("answer: not all could be written");
     }
+}
+
+// Whether a word stands behind the program's name.
+fn has_argument(rt: &impl Env) -> bool {
+    let mut word = [0u8; 1];
+    !matches!(rt.arg(1, &mut word), Err(FillError::NotPresent))
 }
 
 // A name given as an argument would be passed over, and an empty standard input read in its place.
-fn main() {
-    if os::arg_count() > 1 {
-        io::write_all(
-            STDERR_FILENO,
-            b"answer: takes no argument, use: answer < RECORD\n",
-        );
+fn main(rt: HostRuntime) {
+    if has_argument(&rt) {
+        let _ = rt.eprintln("answer: takes no argument, use: answer < RECORD");
         return;
     }
-    run();
+    run(&rt, &mut rt.stdin());
 }

@@ -1,4 +1,6 @@
 // Blocks: a first byte, a command byte, up to 15 data bytes and a checksum.
+#![tactic(auto)]
+
 ghost use Rattle.std.specs.Prelude.{◌≡◌, ◌+◌, ◌≤◌, ◌∷◌, ◌++◌, length, drop};
 ghost use Rattle.block.specs.Block.{checksum};
 ghost use Rattle.block.specs.Read.{read_no, read_fields, read_data};
@@ -13,7 +15,7 @@ const SUM: u8 = 8;
 const FIELD: u8 = 9;
 
 // What the reader tells of a block, or the number that refuses it.
-#[derive(Drop)]
+#[derive(Clone, Copy)]
 pub struct Header {
     pub no: u8,
     pub group: u8,
@@ -22,7 +24,7 @@ pub struct Header {
 }
 
 // The length of the block that was written, or the number that refuses it.
-#[derive(Drop)]
+#[derive(Clone, Copy)]
 pub struct Written {
     pub no: u8,
     pub len: usize,
@@ -102,13 +104,14 @@ fn put(first: u8, command: u8, data: &[u8], out: &mut [u8])
 {
     out[0] = first;
     out[1] = command;
-    bytes::copy(data, &mut out[2..]);
+    let end = data.len() + 2;
+    out[2..end].copy_from_slice(data);
 }
 
 // The block of these fields, at the front of the output.
 pub fn write(group: u8, command: u8, data: &[u8], out: &mut [u8]) -> Written
-    ensures fact_1 { result ≡ written group «data».now out.old }
-    ensures fact_2 { out.new ≡ written_out group command «data».now out.old }
+    ensures answer { result ≡ written group «data».now out.old }
+    ensures output { out.new ≡ written_out group command «data».now out.old }
 {
     let count = data.len();
     if 15 < group {

@@ -1,11 +1,13 @@
 // The listed commands, and the decoder that searches them.
+#![tactic(auto)]
+
 ghost use Rattle.std.specs.Prelude.{◌≡◌, ◌+◌, ◌*◌, ◌<◌, get_or};
 ghost use Rattle.command.specs.Commands.{commands, lookup, no_command};
 
 use settings::{Mode, Which};
 
 // What the motion commands and eject do. The flags of `Vary` and `Step` say reverse.
-#[derive(Drop)]
+#[derive(Clone, Copy)]
 pub enum Motion {
     Run(Mode, i32),
     Vary(Mode, bool),
@@ -15,7 +17,7 @@ pub enum Motion {
 }
 
 // What the acknowledged commands do. The flag of `Shift` says reverse.
-#[derive(Drop)]
+#[derive(Clone, Copy)]
 pub enum Effect {
     Local(bool),
     Standby(bool),
@@ -26,7 +28,7 @@ pub enum Effect {
     Flag(Which, bool),
 }
 
-#[derive(Drop)]
+#[derive(Clone, Copy)]
 pub enum ReplyKind {
     Undefined,
     Ack(Effect),
@@ -41,7 +43,7 @@ const FORWARD: bool = false;
 const REVERSE: bool = true;
 
 // The first byte has the exact count of data bytes in its low four bits.
-#[derive(Drop)]
+#[derive(Clone, Copy)]
 struct Command {
     first: u8,
     command: u8,

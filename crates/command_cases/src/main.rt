@@ -1,8 +1,9 @@
 // Asks the decoder for every pair of first byte and command byte, and prints those that are listed, in ascending order.
 //
 // tests/command_cases.py makes the lines to expect from the list of tests/deck.py.
+#![tactic(auto)]
+
 use command::ReplyKind;
-use libc::STDOUT_FILENO;
 
 fn is_listed(first: u8, command: u8) -> bool {
     let kind = command::find(first, command);
@@ -18,7 +19,7 @@ fn digit(n: u8) -> u8 {
 }
 
 // As 20.01.
-fn print(first: u8, command: u8) {
+fn print(rt: &impl Print, first: u8, command: u8) {
     let line = [
         digit(first / 16),
         digit(first),
@@ -27,20 +28,20 @@ fn print(first: u8, command: u8) {
         digit(command),
         b'\n',
     ];
-    io::write_all(STDOUT_FILENO, &line);
+    let _ = rt.write_all(&line);
 }
 
 // Every command byte behind this first byte.
-fn print_listed(first: u8) {
+fn print_listed(rt: &impl Print, first: u8) {
     for command in 0..=255 {
         if is_listed(first, command) {
-            print(first, command);
+            print(rt, first, command);
         }
     }
 }
 
-fn main() {
+fn main(rt: HostRuntime) {
     for first in 0..=255 {
-        print_listed(first);
+        print_listed(&rt, first);
     }
 }

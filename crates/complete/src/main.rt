@@ -1,10 +1,14 @@
 // Reads an exercise, controller, tape and cassette entries, from standard input and writes it with the deck's replies put in.
+#![tactic(auto)]
+
 ghost use Rattle.std.specs.Prelude.{◌+◌, ◌≤◌, ◌≡◌, length, take};
 ghost use Rattle.io.specs.Counts.{IsPrefixLen};
 ghost use Rattle.completion.specs.Calls.{room_for};
 ghost use Rattle.complete.specs.Printed.{printed};
 
-use libc::{STDERR_FILENO, STDIN_FILENO, STDOUT_FILENO};
+use std::env::FillError;
+use std::io::Read;
+use std::rt::Env;
 
 // What is written for these bytes, at the front of the output; returns its length. A refusal has at most 29 bytes.
 fn answer(bytes: &[u8], out: &mut [u8]) -> usize
@@ -19,36 +23,39 @@ fn answer(bytes: &[u8], out: &mut [u8]) -> usize
     written.len
 }
 
-// Whether the input is at its end: a further read brings nothing. It brings something, or fails, where an earlier one had failed.
-fn ended() -> bool {
+// Whether the input is at its end: a further read brings nothing.
+fn ended(input: &mut impl Read) -> bool {
     let mut more = [0u8; 1];
-    libc::read(STDIN_FILENO, &mut more) == 0
+    matches!(input.read(&mut more), Ok(0))
 }
 
 // Of more than the buffer holds 65,536 bytes are read: too many, so they are refused all the same. The output has room for the
 // longest completed record, 7 times as many, or a refusal.
-fn run() {
-    let mut buf = io::large_buffer();
-    let n = io::read_full(STDIN_FILENO, &mut buf);
-    if n < 65536 && !ended() {
-        io::write_all(STDERR_FILENO, b"complete: not all could be read\n");
+fn run(rt: &(impl Print + Eprint), input: &mut impl Read) {
+    let mut buf = [0u8; 65536];
+    let came = streams::read_full(input, &mut buf);
+    if came.failed || came.count < 65536 && !ended(input) {
+        let _ = rt.eprintln("complete: not all could be read");
         return;
     }
     let mut out = [0u8; 458781];
-    let len = answer(&buf[..n], &mut out);
-    if !io::write_all(STDOUT_FILENO, &out[..len]) {
-        io::write_all(STDERR_FILENO, b"complete: not all could be written\n");
+    let len = answer(&buf[..came.count], &mut out);
+    if rt.write_all(&out[..len]).is_err() {
+        let _ = rt.eprintln("complete: not all could be written");
     }
 }
 
+// Whether a word stands behind the program's name.
+fn has_argument(rt: &impl Env) -> bool {
+    let mut word = [0u8; 1];
+    !matches!(rt.arg(1, &mut word), Err(FillError::NotPresent))
+}
+
 // A name given as an argument would be passed over, and an empty standard input completed in its place.
-fn main() {
-    if os::arg_count() > 1 {
-        io::write_all(
-            STDERR_FILENO,
-            b"complete: takes no argument, use: complete < EXERCISE\n",
-        );
+fn main(rt: HostRuntime) {
+    if has_argument(&rt) {
+        let _ = rt.eprintln("complete: takes no argument, use: complete < EXERCISE");
         return;
     }
-    run();
+    run(&rt, &mut rt.stdin());
 }

@@ -1,38 +1,35 @@
 // Printing on standard output.
 use crate::take;
-use libc::STDOUT_FILENO;
 use record::Written;
 
 // What the lent output holds before a call.
 pub const BLANK: u8 = 0xAA;
 
-fn letters(list: &[u8]) {
-    io::write_all(STDOUT_FILENO, list);
+fn letters(rt: &impl Print, list: &[u8]) {
+    let _ = rt.write_all(list);
 }
 
-fn number(n: u64) {
-    io::print_decimal(STDOUT_FILENO, n);
+fn number(rt: &impl Print, n: u64) {
+    let _ = rt.print(n);
 }
 
 fn blank(out: &[u8], from: usize) -> bool {
-    let mut i = from;
-    while i < out.len() {
+    for i in from..out.len() {
         if out[i] != BLANK {
             return false;
         }
-        i += 1;
     }
     true
 }
 
 // A line for each record, what is handed back; then the bytes that were written, and whether something behind them is not as it was lent.
-pub(super) fn written(w: Written, out: &[u8]) {
-    number(w.no as u64);
-    letters(b" ");
-    number(w.len as u64);
-    letters(b"\n");
-    letters(take::first(out, w.len));
+pub(super) fn written(rt: &impl Print, w: Written, out: &[u8]) {
+    number(rt, w.no as u64);
+    letters(rt, b" ");
+    number(rt, w.len as u64);
+    letters(rt, b"\n");
+    letters(rt, take::first(out, w.len));
     if !blank(out, w.len) {
-        letters(b"touched\n");
+        letters(rt, b"touched\n");
     }
 }

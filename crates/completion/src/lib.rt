@@ -1,4 +1,6 @@
 // A record with the deck's replies put in: what the deck itself would have made of the entries of an exercise.
+#![tactic(auto)]
+
 ghost use Rattle.std.specs.Prelude.{◌≡◌};
 ghost use Rattle.record.specs.Bytes.{entries_of};
 ghost use Rattle.completion.specs.Calls.{follows, all_follow, refusal, written, written_out};
@@ -63,8 +65,8 @@ fn refusal(bytes: &[u8], room: usize) -> u8
 
 // The record with the deck's replies put in, at the front of the output.
 pub fn complete(bytes: &[u8], out: &mut [u8]) -> Written
-    ensures fact_1 { result ≡ written bytes.now out.old }
-    ensures fact_2 { out.new ≡ written_out bytes.now out.old }
+    ensures answer { result ≡ written bytes.now out.old }
+    ensures output { out.new ≡ written_out bytes.now out.old }
 {
     let no = refusal(bytes, out.len());
     if no != 0 {

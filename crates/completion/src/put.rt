@@ -12,7 +12,7 @@ use deck::{Deck, Sent};
 use record::Entry;
 
 // The deck after an entry, and where the record ends.
-#[derive(Drop)]
+#[derive(Clone, Copy)]
 struct Told {
     deck: Deck,
     end: usize,

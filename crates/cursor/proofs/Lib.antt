@@ -1,3 +1,2 @@
 -- The laws that belong to no function.
 pub mod Places
-pub mod Held

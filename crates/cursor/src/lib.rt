@@ -1,4 +1,6 @@
 // A cursor on a line record: it knows where it stands.
+#![tactic(auto)]
+
 ghost use Rattle.std.specs.Prelude.{◌≡◌};
 ghost use Rattle.record.specs.Bytes.{read_at};
 ghost use Rattle.cursor.specs.Cursors.{next_place, standing, onward, taken_at};
@@ -6,14 +8,14 @@ ghost use Rattle.cursor.specs.Cursors.{next_place, standing, onward, taken_at};
 use record::{Entry, Fetched};
 
 // The record, and the number of an entry.
-#[derive(Drop)]
+#[derive(Clone, Copy)]
 struct Cursor<'a> {
     bytes: &'a [u8],
     place: usize,
 }
 
 // An entry and the place after it, or the number that says that there is none.
-#[derive(Drop)]
+#[derive(Clone, Copy)]
 pub struct Taken {
     pub no: u8,
     pub entry: Entry,

@@ -55,13 +55,13 @@ module _ (u : ℕ) where
       → (said d (es ++ look u ∷ []) ≡ said d (without_looks es ++ look u ∷ []))
       × (run d (es ++ look u ∷ []) ≡ run d (without_looks es ++ look u ∷ []))
   looks-idle d t [] o = (refl, refl)
-  looks-idle d t (byte v b flags ∷ es) o = next-idle d (byte v b flags) es (looks-idle _ v es o.1)
+  looks-idle d t (byte v b flags ∷ es) o = next-idle d (byte v b flags) es (looks-idle (after d (byte v b flags)) v es o.1)
   looks-idle d t (look v ∷ es) o =
-      let g = next-idle d (look v) es (looks-idle _ v es o.1) in
+      let g = next-idle d (look v) es (looks-idle (after d (look v)) v es o.1) in
       let h = closed-idle d v (without_looks es) (ordered-without v es o.1) in
       (g.0 ∙ h.0, g.1 ∙ h.1)
-  looks-idle d t (position v p ∷ es) o = next-idle d (position v p) es (looks-idle _ v es o.1)
-  looks-idle d t (cassette v ∷ es) o = next-idle d (cassette v) es (looks-idle _ v es o.1)
+  looks-idle d t (position v p ∷ es) o = next-idle d (position v p) es (looks-idle (after d (position v p)) v es o.1)
+  looks-idle d t (cassette v ∷ es) o = next-idle d (cassette v) es (looks-idle (after d (cassette v)) v es o.1)
 
   -- "replies, due times and deck are equal however many looks stand between"
   pub looks-alike : (d : Deck) (s t : ℕ) (es fs : List Event) → without_looks es ≡ without_looks fs

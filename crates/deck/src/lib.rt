@@ -1,4 +1,6 @@
 // The deck: the four events, with time-out and quiet.
+#![tactic(auto)]
+
 ghost use Rattle.std.specs.Prelude.{◌≡◌, false, ℕ, length};
 ghost use Rattle.deck.specs.Line.{byte, look, position, cassette};
 ghost use Rattle.deck.specs.Calls.{Answers, view, new_deck};
@@ -14,7 +16,7 @@ mod number;
 pub const LAST_TIME: u64 = 281474976710655;
 
 // The open block has `held` bytes: `first`, and the latest of `tail`. A byte at a time below `free` is in quiet.
-#[derive(Drop)]
+#[derive(Clone, Copy)]
 pub struct Deck {
     pub clock: u64,
     pub last: u64,
@@ -26,14 +28,14 @@ pub struct Deck {
 }
 
 // A reply in the output: its length, 0 where there is none, and its due time.
-#[derive(Drop)]
+#[derive(Clone, Copy)]
 pub struct Sent {
     pub len: usize,
     pub due: u64,
 }
 
 // The number, the deck, and the replies that stand at the front of the output, one after the other.
-#[derive(Drop)]
+#[derive(Clone, Copy)]
 pub struct Answer {
     pub no: u8,
     pub deck: Deck,
@@ -42,7 +44,7 @@ pub struct Answer {
 }
 
 // What `join` did: the number, whether the byte was taken, whether it is one for `fill`, and the deck.
-#[derive(Drop)]
+#[derive(Clone, Copy)]
 pub struct Joined {
     pub no: u8,
     pub taken: bool,

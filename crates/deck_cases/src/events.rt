@@ -12,28 +12,40 @@ fn hand(deck: Deck, letter: u8, time: u64, args: &[u8], out: &mut [u8]) -> Answe
     }
 }
 
-fn hand_and_print(deck: Deck, letter: u8, time: u64, args: &[u8], out: &mut [u8]) -> Deck {
+fn hand_and_print(
+    rt: &impl Print,
+    deck: Deck,
+    letter: u8,
+    time: u64,
+    args: &[u8],
+    out: &mut [u8],
+) -> Deck {
     let answer = hand(deck, letter, time, args, out);
-    show::answer(answer, out);
+    show::answer(rt, answer, out);
     answer.deck
 }
 
 // Lends an output of `room` bytes.
-pub(super) fn event(deck: Deck, letter: u8, room: u8, time: u64, args: &[u8]) -> Deck {
+pub(super) fn event(
+    rt: &impl Print,
+    deck: Deck,
+    letter: u8,
+    room: u8,
+    time: u64,
+    args: &[u8],
+) -> Deck {
     let mut space = [show::FILL; 64];
-    hand_and_print(deck, letter, time, args, take::last(&mut space, room))
+    hand_and_print(rt, deck, letter, time, args, take::last(&mut space, room))
 }
 
 // A run of bytes. The arguments have four bytes for each: in two by how much it is later than the one before, its flags, its content.
-pub(super) fn bytes(deck: Deck, room: u8, time: u64, args: &[u8]) -> Deck {
+pub(super) fn bytes(rt: &impl Print, deck: Deck, room: u8, time: u64, args: &[u8]) -> Deck {
     let mut d = deck;
     let mut t = time;
-    let mut i: usize = 0;
-    while i < args.len() / 4 {
+    for i in 0..args.len() / 4 {
         let one = take::rest(args, i * 4);
-        t = std::num::wrapping_add_u64(t, take::two(one) as u64);
-        d = event(d, b'b', room, t, take::rest(one, 2));
-        i += 1;
+        t = t.wrapping_add(u64::from(take::two(one)));
+        d = event(rt, d, b'b', room, t, take::rest(one, 2));
     }
     d
 }

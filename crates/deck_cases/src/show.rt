@@ -1,137 +1,122 @@
 // Printing on standard output. Each value stands behind a space, bytes in hexadecimal.
 use crate::take;
 use deck::{Answer, Deck, Sent};
-use libc::STDOUT_FILENO;
 use settings::{Point, Which};
 
 // What the lent output holds before a call.
 pub const FILL: u8 = 0xAA;
 
-fn text(letters: &[u8]) {
-    io::write_all(STDOUT_FILENO, letters);
+fn text(rt: &impl Print, letters: &[u8]) {
+    let _ = rt.write_all(letters);
 }
 
-fn digits(n: u64) {
-    io::print_decimal(STDOUT_FILENO, n);
+fn digits(rt: &impl Print, n: u64) {
+    let _ = rt.print(n);
 }
 
-fn number(n: u64) {
-    text(b" ");
-    digits(n);
+fn number(rt: &impl Print, n: u64) {
+    text(rt, b" ");
+    digits(rt, n);
 }
 
-fn byte(b: u8) {
-    let digit = b"0123456789ABCDEF";
-    let high = digit[(b / 16) as usize];
-    let low = digit[(b % 16) as usize];
-    text(&[b' ', high, low]);
+fn byte(rt: &impl Print, b: u8) {
+    let _ = print!(rt; " {b:02X}");
 }
 
 // The first `count` bytes of the list.
-fn bytes(list: &[u8], count: usize) {
-    let mut i: usize = 0;
-    while i < count {
-        byte(take::byte(list, i));
-        i += 1;
+fn bytes(rt: &impl Print, list: &[u8], count: usize) {
+    for i in 0..count {
+        byte(rt, take::byte(list, i));
     }
 }
 
 // A refusal has no content, so no due time either.
-fn refusal(no: u8, first: Sent, second: Sent) {
-    text(b"no");
-    number(no as u64);
+fn refusal(rt: &impl Print, no: u8, first: Sent, second: Sent) {
+    text(rt, b"no");
+    number(rt, no as u64);
     if first.due != 0 || second.due != 0 {
-        text(b" and a time");
+        text(rt, b" and a time");
     }
-    text(b"\n");
+    text(rt, b"\n");
 }
 
 // A reply that stands at the front of `out`.
-fn reply(sent: Sent, out: &[u8]) {
+fn reply(rt: &impl Print, sent: Sent, out: &[u8]) {
     if sent.len == 0 {
         return;
     }
-    text(b"reply");
-    number(sent.due);
-    bytes(out, sent.len);
-    text(b"\n");
+    text(rt, b"reply");
+    number(rt, sent.due);
+    bytes(rt, out, sent.len);
+    text(rt, b"\n");
 }
 
 // The output behind the replies is as it was lent.
 fn untouched(list: &[u8]) -> bool {
-    let mut i: usize = 0;
-    while i < list.len() {
-        if list[i] != FILL {
-            return false;
-        }
-        i += 1;
-    }
-    true
+    list.iter().all(|b| *b == FILL)
 }
 
-pub(super) fn answer(a: Answer, out: &[u8]) {
+pub(super) fn answer(rt: &impl Print, a: Answer, out: &[u8]) {
     let first = a.first;
     let second = a.second;
     if a.no != 0 {
-        refusal(a.no, first, second);
+        refusal(rt, a.no, first, second);
     }
-    reply(first, out);
+    reply(rt, first, out);
     let behind = take::rest(out, first.len);
-    reply(second, behind);
+    reply(rt, second, behind);
     if !untouched(take::rest(behind, second.len)) {
-        text(b"touched\n");
+        text(rt, b"touched\n");
     }
 }
 
-fn point(p: Point) {
-    number(p.at as u64);
+fn point(rt: &impl Print, p: Point) {
+    number(rt, p.at as u64);
     if p.on {
-        text(b" on");
+        text(rt, b" on");
     } else {
-        text(b" off");
+        text(rt, b" off");
     }
 }
 
-fn signed(v: i32) {
+fn signed(rt: &impl Print, v: i32) {
     if v < 0 {
-        text(b" -");
+        text(rt, b" -");
     } else {
-        text(b" ");
+        text(rt, b" ");
     }
-    digits(speed::size(v));
+    digits(rt, speed::size(v));
 }
 
 // The open block: its first byte, and those behind it in the order in which they came.
-fn open_block(d: Deck) {
+fn open_block(rt: &impl Print, d: Deck) {
     if d.held == 0 {
         return;
     }
-    byte((d.first % 256) as u8);
+    byte(rt, (d.first % 256) as u8);
     let tail = d.tail;
-    let mut left = d.held - 1;
-    while left > 0 {
-        left -= 1;
-        byte(tail.at(left));
+    for back in (0..d.held - 1).rev() {
+        byte(rt, tail.at(back));
     }
 }
 
 // What the rules settle of a deck: clock, open block, status bytes, position, In, Out, speed.
-pub(super) fn state(d: Deck) {
+pub(super) fn state(rt: &impl Print, d: Deck) {
     let settings = d.settings;
     let status = settings.status();
-    text(b"deck");
-    number(d.clock);
-    text(b" [");
-    open_block(d);
-    text(b" ]");
-    bytes(&status, 13);
-    text(b" at");
-    number(settings.position as u64);
-    text(b" in");
-    point(settings.point(Which::In));
-    text(b" out");
-    point(settings.point(Which::Out));
-    text(b" speed");
-    signed(settings.speed);
-    text(b"\n");
+    text(rt, b"deck");
+    number(rt, d.clock);
+    text(rt, b" [");
+    open_block(rt, d);
+    text(rt, b" ]");
+    bytes(rt, &status, 13);
+    text(rt, b" at");
+    number(rt, settings.position as u64);
+    text(rt, b" in");
+    point(rt, settings.point(Which::In));
+    text(rt, b" out");
+    point(rt, settings.point(Which::Out));
+    text(rt, b" speed");
+    signed(rt, settings.speed);
+    text(rt, b"\n");
 }

@@ -1,4 +1,6 @@
 // What the acknowledged commands do.
+#![tactic(auto)]
+
 ghost use Rattle.std.specs.Prelude.{◌≡◌, get_or};
 ghost use Rattle.effects.specs.Effects.{shifted, moving, transport, perform, wants_time, fits};
 

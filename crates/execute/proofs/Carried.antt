@@ -18,10 +18,13 @@ use Rattle.execute.specs.declared.Executed.{Executed}
 use Rattle.execute.specs.Replies.{Outcome, answered, acknowledged, refused, undefined, bad_checksum}
 use Rattle.execute.specs.Execute.{point_code, time_code, within, carry, execute, shown, shown_out}
 
--- an answer that shows one outcome shows any that equals it
-pub as-shown : (entry : List ℕ) {o p : Outcome} {r : Executed} {exit : List ℕ} → o ≡ p
-    → (r ≡ shown p) × (exit ≡ shown_out p entry) → (r ≡ shown o) × (exit ≡ shown_out o entry)
-as-shown entry e h = (h.0 ∙ ap shown (sym e), h.1 ∙ ap (λ (q : Outcome). shown_out q entry) (sym e))
+-- an answer, and an output, that shows one outcome shows any that equals it
+pub as-answer : {o p : Outcome} {r : Executed} → o ≡ p → r ≡ shown p → r ≡ shown o
+as-answer e h = h ∙ ap shown (sym e)
+
+pub as-output : (entry : List ℕ) {o p : Outcome} {exit : List ℕ} → o ≡ p → exit ≡ shown_out p entry
+    → exit ≡ shown_out o entry
+as-output entry e h = h ∙ ap (λ (q : Outcome). shown_out q entry) (sym e)
 
 module _ (e : Effect) (s : Settings) (bytes : List ℕ) where
   pub carry-fit : fits e bytes ≡ true → carry (Ack e) s bytes ≡ acknowledged (perform e s bytes)

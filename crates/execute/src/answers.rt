@@ -12,8 +12,8 @@ use settings::{Settings, Which};
 // A reply that is no NAK.
 fn answer(s: Settings, group: u8, command: u8, data: &[u8], out: &mut [u8]) -> Executed
     requires { (group ≤ 15) × (length «data».now ≤ 15) × (18 ≤ length out.old) }
-    ensures fact_1 { result ≡ shown (answered s group command «data».now) }
-    ensures fact_2 { out.new ≡ shown_out (answered s group command «data».now) out.old }
+    ensures answer { result ≡ shown (answered s group command «data».now) }
+    ensures output { out.new ≡ shown_out (answered s group command «data».now) out.old }
 {
     let w = block::write(group, command, data, out);
     Executed {
@@ -26,8 +26,8 @@ fn answer(s: Settings, group: u8, command: u8, data: &[u8], out: &mut [u8]) -> E
 
 pub(super) fn refuse(s: Settings, why: u8, out: &mut [u8]) -> Executed
     requires { 18 ≤ length out.old }
-    ensures fact_1 { result ≡ shown (refused s why) }
-    ensures fact_2 { out.new ≡ shown_out (refused s why) out.old }
+    ensures answer { result ≡ shown (refused s why) }
+    ensures output { out.new ≡ shown_out (refused s why) out.old }
 {
     let w = super::nak(why, out);
     Executed {
@@ -52,8 +52,8 @@ fn data(body: u64) -> [u8; 4]
 
 fn acknowledge(effect: Effect, s: Settings, body: u64, out: &mut [u8]) -> Executed
     requires { 18 ≤ length out.old }
-    ensures fact_1 { result ≡ shown (carry (ReplyKind.Ack effect) s (data_in body)) }
-    ensures fact_2 { out.new ≡ shown_out (carry (ReplyKind.Ack effect) s (data_in body)) out.old }
+    ensures answer { result ≡ shown (carry (ReplyKind.Ack effect) s (data_in body)) }
+    ensures output { out.new ≡ shown_out (carry (ReplyKind.Ack effect) s (data_in body)) out.old }
 {
     let data = data(body);
     if takes(effect, &data) {
@@ -73,8 +73,8 @@ fn point_code(which: Which) -> u8
 
 fn point_time(which: Which, s: Settings, out: &mut [u8]) -> Executed
     requires { 18 ≤ length out.old }
-    ensures fact_1 { result ≡ shown (carry (ReplyKind.PointTime which) s []) }
-    ensures fact_2 { out.new ≡ shown_out (carry (ReplyKind.PointTime which) s []) out.old }
+    ensures answer { result ≡ shown (carry (ReplyKind.PointTime which) s []) }
+    ensures output { out.new ≡ shown_out (carry (ReplyKind.PointTime which) s []) out.old }
 {
     let point = s.point(which);
     let time = timecode::time(point.at);
@@ -83,8 +83,8 @@ fn point_time(which: Which, s: Settings, out: &mut [u8]) -> Executed
 
 fn tape_time(s: Settings, body: u64, out: &mut [u8]) -> Executed
     requires { 18 ≤ length out.old }
-    ensures fact_1 { result ≡ shown (carry ReplyKind.TapeTime s (data_in body)) }
-    ensures fact_2 { out.new ≡ shown_out (carry ReplyKind.TapeTime s (data_in body)) out.old }
+    ensures answer { result ≡ shown (carry ReplyKind.TapeTime s (data_in body)) }
+    ensures output { out.new ≡ shown_out (carry ReplyKind.TapeTime s (data_in body)) out.old }
 {
     let data = data(body);
     let n = data[0];
@@ -98,8 +98,8 @@ fn tape_time(s: Settings, body: u64, out: &mut [u8]) -> Executed
 
 fn status(s: Settings, body: u64, out: &mut [u8]) -> Executed
     requires { 18 ≤ length out.old }
-    ensures fact_1 { result ≡ shown (carry ReplyKind.Status s (data_in body)) }
-    ensures fact_2 { out.new ≡ shown_out (carry ReplyKind.Status s (data_in body)) out.old }
+    ensures answer { result ≡ shown (carry ReplyKind.Status s (data_in body)) }
+    ensures output { out.new ≡ shown_out (carry ReplyKind.Status s (data_in body)) out.old }
 {
     let data = data(body);
     let n = data[0];
@@ -113,8 +113,8 @@ fn status(s: Settings, body: u64, out: &mut [u8]) -> Executed
 
 pub(super) fn carry(kind: ReplyKind, s: Settings, body: u64, out: &mut [u8]) -> Executed
     requires { 18 ≤ length out.old }
-    ensures fact_1 { result ≡ shown (carry kind s (data_in body)) }
-    ensures fact_2 { out.new ≡ shown_out (carry kind s (data_in body)) out.old }
+    ensures answer { result ≡ shown (carry kind s (data_in body)) }
+    ensures output { out.new ≡ shown_out (carry kind s (data_in body)) out.old }
 {
     match kind {
         ReplyKind::Undefined => refuse(s, UNDEFINED, out),

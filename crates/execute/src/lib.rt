@@ -1,4 +1,6 @@
 // What a full block does to the settings, and the deck's replies.
+#![tactic(auto)]
+
 ghost use Rattle.std.specs.Prelude.{◌≡◌, [], ◌∷◌};
 ghost use Rattle.block.specs.Write.{written, written_out};
 ghost use Rattle.execute.specs.Replies.{opens_quiet};
@@ -20,7 +22,7 @@ const UNDEFINED: u8 = 0x01;
 const LISTED: usize = 5;
 
 // The number, the settings, the length of the reply, and whether it opens a quiet.
-#[derive(Drop)]
+#[derive(Clone, Copy)]
 pub struct Executed {
     pub no: u8,
     pub settings: Settings,
@@ -52,8 +54,8 @@ pub fn execute(
     last: u8,
     out: &mut [u8],
 ) -> Executed
-    ensures fact_1 { result ≡ executed settings (block_in first count tail last) out.old }
-    ensures fact_2 { out.new ≡ executed_out settings (block_in first count tail last) out.old }
+    ensures answer { result ≡ executed settings (block_in first count tail last) out.old }
+    ensures output { out.new ≡ executed_out settings (block_in first count tail last) out.old }
 {
     if out.len() < 18 {
         return Executed {

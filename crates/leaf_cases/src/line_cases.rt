@@ -1,13 +1,13 @@
 // Calls of the crate `line`.
 use crate::{show, take};
 
-pub(super) fn receive(args: &[u8]) {
+pub(super) fn receive(rt: &impl Print, args: &[u8]) {
     let word = take::number(args);
-    show::text(b"receive");
-    show::hex(word as u64, 3);
-    show::gives();
+    show::text(rt, b"receive");
+    show::word(rt, word);
+    show::gives(rt);
     let r = line::receive(word);
-    show::small(r.no);
-    show::byte(r.byte);
-    show::byte(r.flags);
+    show::small(rt, r.no);
+    show::byte(rt, r.byte);
+    show::byte(rt, r.flags);
 }

@@ -1,62 +1,55 @@
 // Printing on standard output. Each value stands behind a space.
-use libc::STDOUT_FILENO;
-
-pub(super) fn text(letters: &[u8]) {
-    io::write_all(STDOUT_FILENO, letters);
+pub(super) fn text(rt: &impl Print, letters: &[u8]) {
+    let _ = rt.write_all(letters);
 }
 
-pub(super) fn digits(n: u64) {
-    io::print_decimal(STDOUT_FILENO, n);
+pub(super) fn digits(rt: &impl Print, n: u64) {
+    let _ = rt.print(n);
 }
 
-pub(super) fn number(n: u64) {
-    text(b" ");
-    digits(n);
+pub(super) fn number(rt: &impl Print, n: u64) {
+    text(rt, b" ");
+    digits(rt, n);
 }
 
 // A byte in decimal.
-pub(super) fn small(b: u8) {
-    number(b as u64);
+pub(super) fn small(rt: &impl Print, b: u8) {
+    number(rt, u64::from(b));
 }
 
-pub(super) fn hex(n: u64, width: usize) {
-    text(b" ");
-    io::print_hex(STDOUT_FILENO, n, width);
+// A word in hexadecimal, in three digits or more.
+pub(super) fn word(rt: &impl Print, n: u32) {
+    let _ = print!(rt; " {n:03x}");
 }
 
 // A byte in hexadecimal.
-pub(super) fn byte(b: u8) {
-    let digit = b"0123456789abcdef";
-    let high = digit[(b / 16) as usize];
-    let low = digit[(b % 16) as usize];
-    text(&[b' ', high, low]);
+pub(super) fn byte(rt: &impl Print, b: u8) {
+    let _ = print!(rt; " {b:02x}");
 }
 
-pub(super) fn bytes(list: &[u8]) {
-    text(b" [");
-    let mut i: usize = 0;
-    while i < list.len() {
-        byte(list[i]);
-        i += 1;
+pub(super) fn bytes(rt: &impl Print, list: &[u8]) {
+    text(rt, b" [");
+    for b in list {
+        byte(rt, *b);
     }
-    text(b" ]");
+    text(rt, b" ]");
 }
 
 // Stands between a call and what it returned.
-pub(super) fn gives() {
-    text(b" ->");
+pub(super) fn gives(rt: &impl Print) {
+    text(rt, b" ->");
 }
 
 // A call whose one argument is a list of bytes.
-pub(super) fn call_bytes(name: &[u8], args: &[u8]) {
-    text(name);
-    bytes(args);
-    gives();
+pub(super) fn call_bytes(rt: &impl Print, name: &[u8], args: &[u8]) {
+    text(rt, name);
+    bytes(rt, args);
+    gives(rt);
 }
 
 // A call whose one argument is a number.
-pub(super) fn call_number(name: &[u8], n: u32) {
-    text(name);
-    number(n as u64);
-    gives();
+pub(super) fn call_number(rt: &impl Print, name: &[u8], n: u32) {
+    text(rt, name);
+    number(rt, u64::from(n));
+    gives(rt);
 }

@@ -2,21 +2,21 @@
 use crate::{show, take};
 
 // Arguments: the speed byte, and 1 for reverse.
-pub(super) fn speed(args: &[u8]) {
+pub(super) fn speed(rt: &impl Print, args: &[u8]) {
     let n = take::byte(args, 0);
     let reverse = take::byte(args, 1);
-    show::text(b"speed");
-    show::small(n);
-    show::small(reverse);
-    show::gives();
-    signed(speed::speed(n, reverse == 1));
+    show::text(rt, b"speed");
+    show::small(rt, n);
+    show::small(rt, reverse);
+    show::gives(rt);
+    signed(rt, speed::speed(n, reverse == 1));
 }
 
-fn signed(v: i32) {
+fn signed(rt: &impl Print, v: i32) {
     if v < 0 {
-        show::text(b" -");
+        show::text(rt, b" -");
     } else {
-        show::text(b" ");
+        show::text(rt, b" ");
     }
-    show::digits(speed::size(v));
+    show::digits(rt, speed::size(v));
 }

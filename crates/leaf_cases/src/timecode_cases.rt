@@ -1,33 +1,33 @@
 // Calls of the crate `timecode`.
 use crate::{show, take};
 
-pub(super) fn position(args: &[u8]) {
-    show::call_bytes(b"position", args);
-    placed(timecode::position(args));
+pub(super) fn position(rt: &impl Print, args: &[u8]) {
+    show::call_bytes(rt, b"position", args);
+    placed(rt, timecode::position(args));
 }
 
-pub(super) fn time(args: &[u8]) {
+pub(super) fn time(rt: &impl Print, args: &[u8]) {
     let place = take::number(args);
-    show::call_number(b"time", place);
+    show::call_number(rt, b"time", place);
     let r = timecode::time(place);
-    show::small(r.no);
+    show::small(rt, r.no);
     let bytes = r.bytes;
-    show::bytes(&bytes);
+    show::bytes(rt, &bytes);
 }
 
-pub(super) fn frame_on(args: &[u8]) {
+pub(super) fn frame_on(rt: &impl Print, args: &[u8]) {
     let place = take::number(args);
-    show::call_number(b"frame_on", place);
-    placed(timecode::frame_on(place));
+    show::call_number(rt, b"frame_on", place);
+    placed(rt, timecode::frame_on(place));
 }
 
-pub(super) fn frame_back(args: &[u8]) {
+pub(super) fn frame_back(rt: &impl Print, args: &[u8]) {
     let place = take::number(args);
-    show::call_number(b"frame_back", place);
-    placed(timecode::frame_back(place));
+    show::call_number(rt, b"frame_back", place);
+    placed(rt, timecode::frame_back(place));
 }
 
-fn placed(r: timecode::Placed) {
-    show::small(r.no);
-    show::number(r.position as u64);
+fn placed(rt: &impl Print, r: timecode::Placed) {
+    show::small(rt, r.no);
+    show::number(rt, u64::from(r.position));
 }

@@ -1,5 +1,5 @@
 -- The ones among data and parity are those of the nine bits that hold both.
-use mathlib.Core.Path.{◌≡◌, refl, ap, ◌∙◌, sym}
+use mathlib.Core.Path.{◌≡◌, refl, ap, ◌∙◌}
 use Prim.Native.Nat.{ℕ, zero, suc, ◌+◌, ◌*◌, ◌/◌, ◌%◌, ◌<◌, ◌^◌}
 use native.Mathlib.Nat.{add_comm}
 use native.Mathlib.Omega.{arith}

@@ -1,4 +1,6 @@
 // Line words: the 11 bits that carry one byte over the line.
+#![tactic(auto)]
+
 ghost use Rattle.std.specs.Prelude.{◌≡◌, ◌+◌, ◌/◌, ◌%◌};
 ghost use Rattle.line.specs.Word.{received, line_flags};
 
@@ -9,7 +11,7 @@ const PARITY: u8 = 0x10;
 const FRAMING: u8 = 0x40;
 
 // A word's byte and its flags, or the number that refuses it.
-#[derive(Drop)]
+#[derive(Clone, Copy)]
 pub struct Received {
     pub no: u8,
     pub byte: u8,

@@ -1,9 +1,13 @@
 // Reads a line record from standard input and prints its verdict and its turns.
+#![tactic(auto)]
+
 ghost use Rattle.std.specs.Prelude.{◌≤◌, length, take};
 ghost use Rattle.io.specs.Counts.{IsPrefixLen};
 ghost use Rattle.mark.specs.Answers.{Answers};
 
-use libc::{STDERR_FILENO, STDIN_FILENO, STDOUT_FILENO};
+use std::env::FillError;
+use std::io::Read;
+use std::rt::Env;
 
 // What is printed for these bytes, at the front of the output; returns its length. The table has a place for every entry.
 fn answer(bytes: &[u8], out: &mut [u8]) -> usize
@@ -18,39 +22,42 @@ fn answer(bytes: &[u8], out: &mut [u8]) -> usize
     written.len
 }
 
-fn print(bytes: &[u8]) {
+fn print(rt: &(impl Print + Eprint), bytes: &[u8]) {
     let mut out = [0u8; 87440];
     let len = answer(bytes, &mut out);
-    if !io::write_all(STDOUT_FILENO, &out[..len]) {
-        io::write_all(STDERR_FILENO, b"mark: not all could be written\n");
+    if rt.write_all(&out[..len]).is_err() {
+        let _ = rt.eprintln("mark: not all could be written");
     }
 }
 
-// Whether the input is at its end: a further read brings nothing. It brings something, or fails, where an earlier one had failed.
-fn ended() -> bool {
+// Whether the input is at its end: a further read brings nothing.
+fn ended(input: &mut impl Read) -> bool {
     let mut more = [0u8; 1];
-    libc::read(STDIN_FILENO, &mut more) == 0
+    matches!(input.read(&mut more), Ok(0))
 }
 
 // Of a record that is longer than the buffer 65,536 bytes are read: too many, so it is refused all the same.
-fn run() {
-    let mut buf = io::large_buffer();
-    let n = io::read_full(STDIN_FILENO, &mut buf);
-    if n < 65536 && !ended() {
-        io::write_all(STDERR_FILENO, b"mark: not all could be read\n");
+fn run(rt: &(impl Print + Eprint), input: &mut impl Read) {
+    let mut buf = [0u8; 65536];
+    let came = streams::read_full(input, &mut buf);
+    if came.failed || came.count < 65536 && !ended(input) {
+        let _ = rt.eprintln("mark: not all could be read");
         return;
     }
-    print(&buf[..n]);
+    print(rt, &buf[..came.count]);
+}
+
+// Whether a word stands behind the program's name.
+fn has_argument(rt: &impl Env) -> bool {
+    let mut word = [0u8; 1];
+    !matches!(rt.arg(1, &mut word), Err(FillError::NotPresent))
 }
 
 // A name given as an argument would be passed over, and an empty standard input marked in its place.
-fn main() {
-    if os::arg_count() > 1 {
-        io::write_all(
-            STDERR_FILENO,
-            b"mark: takes no argument, use: mark < RECORD\n",
-        );
+fn main(rt: HostRuntime) {
+    if has_argument(&rt) {
+        let _ = rt.eprintln("mark: takes no argument, use: mark < RECORD");
         return;
     }
-    run();
+    run(&rt, &mut rt.stdin());
 }

@@ -5,9 +5,7 @@ pub mod Answered
 pub mod Tests
 pub mod Whole
 pub mod Passing
-pub mod Leading
+pub mod Judged
 pub mod Taken
 pub mod Unique
 pub mod Filled
-pub mod Halting
-pub mod Running

@@ -1,4 +1,3 @@
 -- What the contracts of `marker` mean.
 pub mod Steps
-pub mod Runs
 pub mod Marks

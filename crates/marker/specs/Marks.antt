@@ -2,7 +2,10 @@
 use Rattle.std.specs.Prelude.{ℕ, ◌/◌, ◌≤◌, ◌≡◌, cond, List, ltb, length, take, drop}
 use Rattle.record.specs.Bytes.{entries_of, is_record}
 use Rattle.record.specs.Marks.{Demand3}
+use Rattle.record.specs.Machine.{Verdict, judge_from, judge}
+use Rattle.marker.specs.declared.Marker.{Marker}
 use Rattle.marker.specs.declared.Marked.{Marked}
+use Rattle.marker.specs.Steps.{state}
 
 -- 10 RECORD: "record not a multiple of 12 bytes, or over 65,532"; 1 ROOM: "fewer places than entries"; "marker: 10, 1"
 unfoldable pub refusal : (size room : ℕ) → ℕ
@@ -11,6 +14,27 @@ refusal size room = cond (is_record size) (cond (ltb room (size / 12)) 1 0) 10
 -- "All of these but 0 return no other content (zeros ..)"
 abbrev pub nothing : ℕ → Marked
 nothing n = record { no = n; fault = 0; place = 0; count = 0 }
+
+-- "verdict, place and count": the automaton's, with the starts at the front of the table
+abbrev pub verdict_of : Marked → List ℕ → Verdict
+verdict_of r table = record { fault = r.fault; place = r.place; starts = take r.count table }
+
+-- after i entries, with `count` turn starts at the front of the table, which held `before`: what is left of the record leads to
+-- the verdict on the whole
+pub record Leads (bytes before table : List ℕ) (m : Marker) (count i : ℕ) : Type 0 where
+  pub within : i ≤ length bytes / 12
+  pub few : count ≤ i
+  pub size : length table ≡ length before
+  pub leads : judge_from (drop i (entries_of bytes)) (state i (take count table) m) ≡ judge (entries_of bytes)
+  pub rest : drop count table ≡ drop count before
+
+-- the entries one after the other; `before` and `after` are what the table holds
+pub record Runs (bytes before : List ℕ) (r : Marked) (after : List ℕ) : Type 0 where
+  pub no : r.no ≡ 0
+  pub verdict : verdict_of r after ≡ judge (entries_of bytes)
+  pub few : r.count ≤ length (entries_of bytes)
+  -- "the rest is untouched"
+  pub rest : drop r.count after ≡ drop r.count before
 
 -- the contract of `mark`
 pub record Marks (bytes before : List ℕ) (r : Marked) (after : List ℕ) : Type 0 where

@@ -1,11 +1,12 @@
 // The marker: reads a line record and finds its turns, or the first place that no sound record can get past.
-ghost use Rattle.std.specs.Prelude.{◌≡◌, cond, ◌+◌, ◌/◌, ◌≤◌, ◌<◌, eqb, length, get_or};
+#![tactic(auto)]
+
+ghost use Rattle.std.specs.Prelude.{◌≡◌, cond, ◌/◌, ◌≤◌, ◌<◌, length, get_or};
 ghost use Rattle.record.specs.Bytes.{entries_of, no_entry};
 ghost use Rattle.record.specs.Machine.{resting};
 ghost use Rattle.deck.specs.Calls.{view};
 ghost use Rattle.marker.specs.Steps.{awaited, new_marker, fills_block};
-ghost use Rattle.marker.specs.Runs.{standing, Leads, Goes, Runs};
-ghost use Rattle.marker.specs.Marks.{refusal, Marks};
+ghost use Rattle.marker.specs.Marks.{refusal, Leads, Runs, Marks};
 
 use deck::Deck;
 use packed::Packed;
@@ -15,7 +16,7 @@ mod reply;
 mod step;
 
 // The bytes of a reply that are still to come are the first `left` of `reply`; none is to come later than `latest`.
-#[derive(Drop)]
+#[derive(Clone, Copy)]
 pub struct Waits {
     pub reply: Packed,
     pub left: usize,
@@ -23,14 +24,14 @@ pub struct Waits {
 }
 
 // What is known between two entries. The deck's clock is the time of the entry before.
-#[derive(Drop)]
+#[derive(Clone, Copy)]
 pub struct Marker {
     pub deck: Deck,
     pub waits: Waits,
 }
 
 // An entry's fault, 0 if it has none; whether it begins a turn; and the marker after it, the same where there is a fault.
-#[derive(Drop)]
+#[derive(Clone, Copy)]
 pub struct Stepped {
     pub fault: u8,
     pub begins: bool,
@@ -38,7 +39,7 @@ pub struct Stepped {
 }
 
 // Whether an entry is light; whether it is not, but fills the block. Of a light one: whether it begins a turn, and the marker after it.
-#[derive(Drop)]
+#[derive(Clone, Copy)]
 struct Weighed {
     taken: bool,
     fills: bool,
@@ -47,7 +48,7 @@ struct Weighed {
 }
 
 // Where the light entries end: whether the next one fills the block, the place, the turn starts so far and the marker.
-#[derive(Drop)]
+#[derive(Clone, Copy)]
 struct Passed {
     fills: bool,
     place: usize,
@@ -55,27 +56,14 @@ struct Passed {
     marker: Marker,
 }
 
-// The number; then where a run of entries halts: the fault of the next entry, 0 if it has none or there is none, how many were taken,
-// how many turn starts stand at the front of the table, and the marker.
-#[derive(Drop)]
-pub struct Halt {
-    pub no: u8,
-    pub fault: u8,
-    pub taken: usize,
-    pub count: usize,
-    pub marker: Marker,
-}
-
 // The number; then the fault, 0 if the record is sound, its place, and how many turn starts stand at the front of the table.
-#[derive(Drop)]
+#[derive(Clone, Copy)]
 pub struct Marked {
     pub no: u8,
     pub fault: u8,
     pub place: usize,
     pub count: usize,
 }
-
-const MOST: u32 = 4294967295;
 
 const ROOM: u8 = 1;
 
@@ -127,18 +115,12 @@ fn refusal(size: usize, room: usize) -> u8
     0
 }
 
-// The light entries from this place on, to the first that is not light or has no place for its turn start, or to the end.
-fn pass(
-    bytes: &[u8],
-    table: &mut [u32],
-    taken: u32,
-    from: Marker,
-    counted: usize,
-    at: usize,
-) -> Passed
-    requires { (taken + length bytes.now / 12 ≤ 4294967295) × (counted ≤ length table.old) × (at ≤ length bytes.now / 12) }
-    ensures { Leads taken bytes.now (standing table.old from counted at)
-        (standing table.new result.marker result.count result.place)
+// The light entries from this place on, to the first that is not light or the end.
+fn pass(bytes: &[u8], table: &mut [u32], from: Marker, counted: usize, at: usize) -> Passed
+    requires { (length bytes.now ≤ 65532) × (length bytes.now / 12 ≤ length table.old)
+        × Leads bytes.now table.old table.old from counted at }
+    ensures { Leads bytes.now table.old table.new result.marker result.count result.place
+        × (counted ≤ result.count) × (at ≤ result.place)
         × (result.place < length bytes.now / 12
         → result.fills ≡ fills_block result.marker (get_or (entries_of bytes.now) result.place no_entry)) }
 {
@@ -149,7 +131,7 @@ fn pass(
     while place < n {
         let t = cursor::take(bytes, place);
         let l = marker.light(t.entry);
-        if !l.taken || l.begins && count == table.len() {
+        if !l.taken {
             return Passed {
                 fills: l.fills,
                 place: place,
@@ -159,7 +141,7 @@ fn pass(
         }
         marker = l.marker;
         if l.begins {
-            table[count] = taken + place as u32;
+            table[count] = place as u32;
             count += 1;
         }
         place = t.place;
@@ -172,75 +154,44 @@ fn pass(
     }
 }
 
-// The entries one after the other.
-fn through(bytes: &[u8], table: &mut [u32], taken: u32, from: Marker) -> Halt
-    requires { taken + length bytes.now / 12 ≤ 4294967295 }
-    ensures { Goes from taken bytes.now table.old result table.new }
+// The entries one after the other, to the first fault or the end.
+fn run(bytes: &[u8], table: &mut [u32]) -> Marked
+    requires { (length bytes.now ≤ 65532) × (length bytes.now / 12 ≤ length table.old) }
+    ensures { Runs bytes.now table.old result table.new }
 {
     let n = bytes.len() / 12;
-    let mut marker = from;
+    let mut marker = Marker::start();
     let mut count: usize = 0;
     let mut i: usize = 0;
     while i < n {
-        let p = pass(bytes, table, taken, marker, count, i);
+        let p = pass(bytes, table, marker, count, i);
         marker = p.marker;
         count = p.count;
         i = p.place;
         if i < n {
             let t = cursor::take(bytes, i);
             let r = marker.go(t.entry, p.fills);
-            if r.fault != 0 || r.begins && count == table.len() {
-                return Halt {
+            if r.fault != 0 {
+                return Marked {
                     no: 0,
                     fault: r.fault,
-                    taken: i,
+                    place: i,
                     count: count,
-                    marker: marker,
                 };
             }
             marker = r.marker;
             if r.begins {
-                table[count] = taken + i as u32;
+                table[count] = i as u32;
                 count += 1;
             }
             i = t.place;
         }
     }
-    Halt {
+    Marked {
         no: 0,
-        fault: 0,
-        taken: n,
+        fault: marker.ends(),
+        place: n,
         count: count,
-        marker: marker,
-    }
-}
-
-impl Marker {
-    // The entries one after the other, numbered from `taken` on: to the first fault, to one whose turn start has no place left in the
-    // table, or to the end. Bytes behind the last whole entry are not looked at.
-    pub fn run(self, taken: u32, bytes: &[u8], table: &mut [u32]) -> Halt
-        ensures { Runs self taken bytes.now table.old result table.new }
-    {
-        if ((MOST - taken) as usize) < bytes.len() / 12 {
-            return Halt {
-                no: RECORD,
-                fault: 0,
-                taken: 0,
-                count: 0,
-                marker: self,
-            };
-        }
-        through(bytes, table, taken, self)
-    }
-
-    // The verdict where a run has halted: its fault, or that of a record that ends here.
-    fn judged(self, fault: u8) -> u8
-        ensures { result ≡ cond (eqb fault 0) (cond (resting (view self.deck) (awaited self.waits)) 0 26) fault }
-    {
-        if fault != 0 {
-            return fault;
-        }
-        self.ends()
     }
 }
 
@@ -256,13 +207,5 @@ pub fn mark(bytes: &[u8], table: &mut [u32]) -> Marked
             count: 0,
         };
     }
-    let start = Marker::start();
-    let halt = start.run(0, bytes, table);
-    let marker = halt.marker;
-    Marked {
-        no: 0,
-        fault: marker.judged(halt.fault),
-        place: halt.taken,
-        count: halt.count,
-    }
+    run(bytes, table)
 }

@@ -1,4 +1,6 @@
 // Bytes packed in numbers: the compiled code keeps these in registers, where it would copy an array from place to place.
+#![tactic(auto)]
+
 ghost use Rattle.std.specs.Prelude.{◌≡◌, [], ◌∷◌, ◌/◌, ◌<◌, ◌^◌, drop, get_or};
 ghost use Rattle.packed.specs.Numbers.{low_first, low_bytes};
 ghost use Rattle.packed.specs.Packed.{unpacked, packed};
@@ -6,7 +8,7 @@ ghost use Rattle.packed.specs.Packed.{unpacked, packed};
 mod latest;
 
 // 24 bytes, lowest first: eight in each number.
-#[derive(Drop)]
+#[derive(Clone, Copy)]
 pub struct Packed {
     pub low: u64,
     pub mid: u64,
@@ -14,7 +16,7 @@ pub struct Packed {
 }
 
 // Bytes that came one after the other: the latest sixteen, the latest lowest, eight in each number.
-#[derive(Drop)]
+#[derive(Clone, Copy)]
 pub struct Tail {
     pub low: u64,
     pub high: u64,

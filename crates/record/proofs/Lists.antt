@@ -1,14 +1,12 @@
 -- Lists of entries: kinds, orders, times; and lists of bytes.
-use Prim.Native.Nat.{ℕ, zero, suc, ◌≤◌, ◌<◌}
+use Prim.Native.Nat.{ℕ, ◌≤◌, ◌<◌}
 use mathlib.Core.Path.{◌≡◌, refl}
 use mathlib.Core.List.{List, [], ◌∷◌, ◌++◌}
 use mathlib.Core.Bool.{Bool, true, false, ◌&&◌}
 use native.Mathlib.Omega.{arith}
 use lib.Dec.{T, leb}
-use lib.ListN.{drop}
 use mathlib.Core.Logic.{◌⊎◌, inl, inr}
 use borrow.Author.Tests.{leb-true, leb-false}
-use Rattle.packed.proofs.Bytes.{Bytes}
 use Rattle.record.specs.declared.Entry.{Entry}
 use Rattle.record.specs.Entries.{All, First, Steps, keep, last_time, of_kind}
 

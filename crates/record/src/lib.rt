@@ -1,4 +1,6 @@
 // Line records: entries of 12 bytes.
+#![tactic(auto)]
+
 ghost use Rattle.std.specs.Prelude.{◌≡◌, [], ◌∷◌, ◌≤◌, length};
 ghost use Rattle.packed.specs.Numbers.{low_first, low_bytes};
 ghost use Rattle.record.specs.Bytes.{entry_of, is_record, read_at, written, written_out};
@@ -18,7 +20,7 @@ const RECORD: u8 = 10;
 
 const LONGEST: usize = 65532;
 
-#[derive(Drop)]
+#[derive(Clone, Copy)]
 pub struct Entry {
     pub kind: u8,
     pub flags: u8,
@@ -27,14 +29,14 @@ pub struct Entry {
 }
 
 // The entry that was read, or the number that says that there is none.
-#[derive(Drop)]
+#[derive(Clone, Copy)]
 pub struct Fetched {
     pub no: u8,
     pub entry: Entry,
 }
 
 // How many bytes were written, or the number that refuses the call.
-#[derive(Drop)]
+#[derive(Clone, Copy)]
 pub struct Written {
     pub no: u8,
     pub len: usize,
@@ -114,8 +116,8 @@ fn fill(value: u64, out: &mut [u8])
 
 // The entry's 12 bytes, at the front of the output.
 pub fn write(entry: Entry, out: &mut [u8]) -> Written
-    ensures fact_1 { result ≡ written entry out.old }
-    ensures fact_2 { out.new ≡ written_out entry out.old }
+    ensures answer { result ≡ written entry out.old }
+    ensures output { out.new ≡ written_out entry out.old }
 {
     if out.len() < 12 {
         return Written { no: ROOM, len: 0 };

@@ -11,7 +11,7 @@ use deck::{Answer, Deck, Sent};
 use record::Entry;
 
 // The deck after an entry, and where the text ends.
-#[derive(Drop)]
+#[derive(Clone, Copy)]
 struct Told {
     deck: Deck,
     end: usize,

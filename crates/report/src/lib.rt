@@ -1,8 +1,10 @@
 // What the programs print, as bytes in a lent buffer.
+#![tactic(auto)]
+
 ghost use Rattle.std.specs.Prelude.{◌≡◌, ◌+◌, ◌*◌, ◌<◌, ltb};
 ghost use Rattle.report.specs.Text.{written_in, written_out};
 ghost use Rattle.report.specs.Verdict.{text_of, room_for};
-ghost use Rattle.report.specs.Transcript.{transcript, room_for as roomForBytes};
+ghost use Rattle.report.specs.Transcript.{transcript, room_for as room_for_bytes};
 
 use marker::Marked;
 
@@ -13,7 +15,7 @@ mod verdict;
 const ROOM: u8 = 1;
 
 // The length of the text, or the number that refuses the output.
-#[derive(Drop)]
+#[derive(Clone, Copy)]
 pub struct Written {
     pub no: u8,
     pub len: usize,
@@ -32,8 +34,8 @@ fn short(room: usize, fixed: usize, each: usize, parts: usize) -> bool
 
 // The text of a verdict.
 pub fn text(marked: Marked, starts: &[u32], out: &mut [u8]) -> Written
-    ensures fact_1 { result ≡ written_in (room_for starts.now) (text_of marked starts.now) out.old }
-    ensures fact_2 { out.new
+    ensures answer { result ≡ written_in (room_for starts.now) (text_of marked starts.now) out.old }
+    ensures output { out.new
         ≡ written_out (room_for starts.now) (text_of marked starts.now) out.old }
 {
     if short(out.len(), 64, 16, starts.len()) {
@@ -47,9 +49,9 @@ pub fn text(marked: Marked, starts: &[u32], out: &mut [u8]) -> Written
 
 // What the deck says to a record's entries, and how it stands after them.
 pub fn transcript(bytes: &[u8], out: &mut [u8]) -> Written
-    ensures fact_1 { result ≡ written_in (roomForBytes bytes.now) (transcript bytes.now) out.old }
-    ensures fact_2 { out.new
-        ≡ written_out (roomForBytes bytes.now) (transcript bytes.now) out.old }
+    ensures answer { result ≡ written_in (room_for_bytes bytes.now) (transcript bytes.now) out.old }
+    ensures output { out.new
+        ≡ written_out (room_for_bytes bytes.now) (transcript bytes.now) out.old }
 {
     if short(out.len(), 128, 108, bytes.len() / 12) {
         return Written { no: ROOM, len: 0 };

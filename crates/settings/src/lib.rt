@@ -1,11 +1,13 @@
 // The deck's settings.
+#![tactic(auto)]
+
 ghost use Rattle.std.specs.Prelude.{◌≡◌};
 ghost use Rattle.settings.specs.Settings.{power_on, loaded, point_of, with_motion, with_point};
 ghost use Rattle.settings.specs.Status.{status_bytes};
 
 mod bits;
 
-#[derive(Drop)]
+#[derive(Clone, Copy)]
 pub enum Mode {
     NoMode,
     Stop,
@@ -18,14 +20,14 @@ pub enum Mode {
     Shuttle,
 }
 
-#[derive(Drop)]
+#[derive(Clone, Copy)]
 pub enum Which {
     In,
     Out,
 }
 
 // An entry point: its position and its flag.
-#[derive(Drop)]
+#[derive(Clone, Copy)]
 pub struct Point {
     pub at: u32,
     pub on: bool,
@@ -33,7 +35,7 @@ pub struct Point {
 
 // The speed is in thousandths of the play speed, minus in reverse. In and Out stand here as bare positions and flags: a
 // `Point` ends in three bytes of padding, which every copy would carry along.
-#[derive(Drop)]
+#[derive(Clone, Copy)]
 pub struct Settings {
     pub cassette: bool,
     pub mode: Mode,

@@ -1,4 +1,6 @@
 // What the speed byte of jog, variable and shuttle means, and the size of a speed.
+#![tactic(auto)]
+
 ghost use Rattle.std.specs.Prelude.{◌≡◌, ◌+◌, ◌<◌, ◌^◌, pos, nat_abs};
 ghost use Rattle.speed.specs.Speed.{IsSpeed, speed_of, signed};
 

@@ -1,4 +1,6 @@
 // Texts put into a lent output: each public function puts its text there from `at` on, or refuses the output and writes nothing.
+#![tactic(auto)]
+
 ghost use Rattle.std.specs.Prelude.{◌+◌, ◌≤◌, ◌≡◌, ltb, length};
 ghost use Rattle.text.specs.Writes.{Writes};
 ghost use Rattle.text.specs.Puts.{Puts};
@@ -12,7 +14,7 @@ pub use numbers::{at_line, decimal, line};
 const ROOM: u8 = 1;
 
 // Where the text ends, or the number that refuses the output.
-#[derive(Drop)]
+#[derive(Clone, Copy)]
 pub struct Put {
     pub no: u8,
     pub end: usize,

@@ -1,4 +1,6 @@
 // Times and positions: four BCD bytes, frames first, and the number of the frame in its day.
+#![tactic(auto)]
+
 ghost use Rattle.std.specs.Prelude.{◌≡◌, cond, ◌<◌};
 ghost use Rattle.timecode.specs.Bcd.{bcd, bcd_value, bcd_below};
 ghost use Rattle.timecode.specs.Time.{read_time, write_time, frame_on, frame_back};
@@ -13,21 +15,21 @@ const FRAMES: u32 = 25;
 pub const DAY: u32 = 24 * 60 * 60 * FRAMES;
 
 // A position, or the number that refuses it.
-#[derive(Drop)]
+#[derive(Clone, Copy)]
 pub struct Placed {
     pub no: u8,
     pub position: u32,
 }
 
 // Time bytes, or the number that refuses them.
-#[derive(Drop)]
+#[derive(Clone, Copy)]
 pub struct Timed {
     pub no: u8,
     pub bytes: [u8; 4],
 }
 
 // A two-digit number, if the byte was one in range.
-#[derive(Drop)]
+#[derive(Clone, Copy)]
 struct TwoDigits {
     fits: bool,
     value: u32,
