@@ -26,7 +26,7 @@ fn blank() -> [u8; ROOM] {
     [0; ROOM]
 }
 
-// Whether the input is at its end: a further read brings nothing.
+// Whether the input is at its end: a further read brings nothing. A terminal can go on behind an end.
 fn ended(input: &mut impl Read) -> bool {
     let mut more = [0u8; 1];
     matches!(input.read(&mut more), Ok(0))

@@ -1,5 +1,6 @@
 -- A written block reads back as its fields and data, and a block that reads is written back as the same bytes.
-use Rattle.std.proofs.Common.{◌≡◌, ℕ, suc, ◌+◌, ◌-◌, ◌<◌, ◌≤◌, List, [], ◌∷◌, ◌++◌, length, get_or, take, drop, sym, refl, ap, ◌∙◌, arith, take_all, take-suc, take_at}
+use Rattle.std.proofs.Common.{◌≡◌, ℕ, suc, ◌+◌, ◌-◌, ◌<◌, ◌≤◌, List, [], ◌∷◌, ◌++◌}
+use Rattle.std.proofs.Common.{length, get_or, take, drop, sym, refl, ap, ◌∙◌, arith, take_all, take-suc, take_at}
 use lib.Seq.{get_or_at}
 use Rattle.block.specs.Block.{group_of, count_of, first_byte, checksum, body, block_of}
 use Rattle.block.specs.Read.{read_no, read_fields, read_data}

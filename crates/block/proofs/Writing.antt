@@ -1,5 +1,6 @@
 -- What the writer's number says of its fields, and what it writes then.
-use Rattle.std.proofs.Common.{◌≡◌, ℕ, ◌+◌, ◌<◌, ◌≤◌, ltb, List, [], ◌∷◌, ◌++◌, length, take, drop, set, append_assoc, add-one, arith, length-append, drop-cons, take_at, ltb-false, le-ltb}
+use Rattle.std.proofs.Common.{◌≡◌, ℕ, ◌+◌, ◌<◌, ◌≤◌, ltb, List, [], ◌∷◌, ◌++◌}
+use Rattle.std.proofs.Common.{length, take, drop, set, append_assoc, add-one, arith, length-append, drop-cons, take_at, ltb-false, le-ltb}
 use lib.Seq.{set_at}
 use Rattle.block.specs.Block.{checksum, block_of}
 use Rattle.block.specs.Write.{field_wrong, room_short, write_no, written, written_out}

@@ -23,7 +23,7 @@ fn answer(bytes: &[u8], out: &mut [u8]) -> usize
     written.len
 }
 
-// Whether the input is at its end: a further read brings nothing.
+// Whether the input is at its end: a further read brings nothing. A terminal can go on behind an end.
 fn ended(input: &mut impl Read) -> bool {
     let mut more = [0u8; 1];
     matches!(input.read(&mut more), Ok(0))

@@ -1,5 +1,6 @@
 -- What a block that is handed over in parts comes to: too long to be listed, or short.
-use Rattle.std.proofs.Common.{◌≡◌, ℕ, ◌+◌, ◌-◌, ◌%◌, ◌<◌, ◌≤◌, cond, eqb, ◌⊎◌, List, ◌∷◌, length, get_or, take, sym, ap, ◌∙◌, ⊎_elim, arith, eq-eqb, ne_eqb}
+use Rattle.std.proofs.Common.{◌≡◌, ℕ, ◌+◌, ◌-◌, ◌%◌, ◌<◌, ◌≤◌, cond, eqb, ◌⊎◌}
+use Rattle.std.proofs.Common.{List, ◌∷◌, length, get_or, take, sym, ap, ◌∙◌, ⊎_elim, arith, eq-eqb, ne_eqb}
 use native.Mathlib.Decide.{ℕ_discrete, dec_le}
 use Rattle.packed.specs.declared.Tail.{Tail}
 use Rattle.packed.specs.Tail.{latest}

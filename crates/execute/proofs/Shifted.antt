@@ -1,5 +1,7 @@
 -- The latest bytes of a tail, shifted up: the command byte highest, zeros below the data.
-use Rattle.std.proofs.Common.{◌≡◌, ℕ, zero, suc, ◌+◌, ◌-◌, ◌*◌, ◌/◌, ◌%◌, ◌^◌, ◌<◌, ◌≤◌, List, [], ◌∷◌, ◌++◌, length, take, drop, replicate, sym, refl, ap, ◌∙◌, append_assoc, append-nil, mod-lt, mul_assoc, suc-add, pow-suc, zero-add, mul-one, arith, take_all, take_at}
+use Rattle.std.proofs.Common.{◌≡◌, ℕ, zero, suc, ◌+◌, ◌-◌, ◌*◌, ◌/◌, ◌%◌, ◌^◌, ◌<◌, ◌≤◌}
+use Rattle.std.proofs.Common.{List, [], ◌∷◌, ◌++◌, length, take, drop, replicate, sym, refl, ap}
+use Rattle.std.proofs.Common.{◌∙◌, append_assoc, append-nil, mod-lt, mul_assoc, suc-add, pow-suc, zero-add, mul-one, arith, take_all, take_at}
 use lib.Seq.{take-append-le}
 use Rattle.packed.specs.declared.Tail.{Tail}
 use Rattle.packed.specs.Numbers.{low_first, low_bytes}

@@ -30,7 +30,7 @@ fn print(rt: &(impl Print + Eprint), bytes: &[u8]) {
     }
 }
 
-// Whether the input is at its end: a further read brings nothing.
+// Whether the input is at its end: a further read brings nothing. A terminal can go on behind an end.
 fn ended(input: &mut impl Read) -> bool {
     let mut more = [0u8; 1];
     matches!(input.read(&mut more), Ok(0))

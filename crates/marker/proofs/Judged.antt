@@ -1,6 +1,6 @@
 -- The loop over the entries: what is left of the record leads to the verdict on the whole.
 use Prim.Native.Nat.{ℕ, suc, ◌+◌, ◌-◌, ◌/◌, ◌≤◌, ◌<◌}
-use mathlib.Core.Path.{◌≡◌, refl, sym, ap, ◌∙◌}
+use mathlib.Core.Path.{◌≡◌, refl, sym, ap, ◌∙◌, subst}
 use mathlib.Core.Bool.{true, false, cond}
 use mathlib.Core.List.{List, [], ◌++◌, append-nil}
 use native.Mathlib.Omega.{arith}
@@ -14,6 +14,9 @@ use Rattle.record.specs.Entries.{keep}
 use Rattle.record.specs.Bytes.{entries_of, no_entry}
 use Rattle.record.specs.Machine.{State, Outcome, goes, stops, begin, resting, verdict, follow, judge_from, judge}
 use Rattle.record.proofs.Bytes.{length-entries, entries_from}
+use Rattle.cursor.specs.declared.Taken.{Taken}
+use Rattle.cursor.specs.Cursors.{taken_at}
+use Rattle.cursor.proofs.Places.{moves}
 use Rattle.marker.specs.declared.Marker.{Marker}
 use Rattle.marker.specs.declared.Stepped.{Stepped}
 use Rattle.marker.specs.Steps.{awaited, state, new_marker, outcome, Steps}
@@ -113,3 +116,19 @@ module _ (bytes before table : List ℕ) (m : Marker) (count i : ℕ) (v : Leads
                 rw (drop-set-lt (count + 1) table count i (omega arith))
                 (sym (drop-drop 1 count table) ∙ ap (drop 1) v.rest ∙ drop-drop 1 count before);
           }
+
+-- the entry that is taken is that of the record, and the place after it is one on
+pub of-record : (bytes : List ℕ) (place : ℕ) (t : Taken) (m : Marker) (r : Stepped) → t ≡ taken_at bytes place
+    → Steps m t.entry r → Steps m (get_or (entries_of bytes) place no_entry) r
+of-record bytes place t m r e s = subst (λ (x : Taken). Steps m x.entry r) e s
+
+pub one-on : (bytes : List ℕ) (place : ℕ) (t : Taken) → t ≡ taken_at bytes place → place < length bytes / 12
+    → t.place ≡ place + 1
+one-on bytes place t e h = ap (λ (x : Taken). x.place) e ∙ moves bytes place h
+
+-- after the light entries there is a place for one start more
+pub has-room : {bytes before after : List ℕ} {m : Marker} {count place : ℕ} → Leads bytes before after m count place
+    → place < length bytes / 12 → length bytes ≤ 65532 → length bytes / 12 ≤ length before
+    → (place ≤ 65532) × (count < length after) × (count < 65532)
+has-room v h most room =
+    (omega (arith, v.within), omega (arith, v.few, v.size), omega (arith, v.few, v.within))

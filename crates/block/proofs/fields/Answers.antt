@@ -1,7 +1,7 @@
 -- `block::fields` meets its contract: a block that reads has its first two bytes.
-use Rattle.std.proofs.Common.{◌≡◌, ◌≤◌, length, get_or, sym, ◌∙◌, arith, ne_eqb}
+use Rattle.std.proofs.Common.{get_or, sym, ◌∙◌, arith, ne_eqb}
 use lib.Bits.{and_mask}
-use Rattle.block.specs.Read.{read_no, read_fields}
+use Rattle.block.specs.Read.{read_fields}
 use Rattle.block.proofs.Reading.{length-read, fields_read}
 use Rattle.block.proofs.fields.Goals as goal
 
@@ -11,23 +11,14 @@ returns-then-no-ne0 c = simp (← c.number-no.ensures, ne_eqb _ _ c.if-no-ne0.tr
 
 pub bounds-bytes-0 : goal.bounds-bytes-0
 bounds-bytes-0 c =
-    let zero : read_no c.args.bytes.now ≡ 0 =
-    sym c.number-no.ensures ∙ c.if-no-ne0.false in
-    let long : 3 ≤ length c.args.bytes.now =
-    omega (arith, length-read _ zero) in
-    omega (arith, long)
+    omega (arith, length-read _ (sym c.number-no.ensures ∙ c.if-no-ne0.false))
 
 pub bounds-bytes-1 : goal.bounds-bytes-1
 bounds-bytes-1 c =
-    let zero : read_no c.args.bytes.now ≡ 0 =
-    sym c.number-no.ensures ∙ c.if-no-ne0.false in
-    let long : 3 ≤ length c.args.bytes.now =
-    omega (arith, length-read _ zero) in
-    omega (arith, long)
+    omega (arith, length-read _ (sym c.number-no.ensures ∙ c.if-no-ne0.false))
 
 pub returns : goal.returns
 returns c =
-    let zero : read_no c.args.bytes.now ≡ 0 =
-    sym c.number-no.ensures ∙ c.if-no-ne0.false in
+    let zero = sym c.number-no.ensures ∙ c.if-no-ne0.false in
     let bytes = c.args.bytes.now in
     rw (fields_read bytes zero, and_mask (get_or bytes 0 0) 4)

@@ -11,8 +11,8 @@ use Rattle.complete.specs.Printed.{printed}
 use Rattle.complete.proofs.Prints.{prints}
 use Rattle.complete.proofs.answer.Goals as goal
 
-pub returns-then-written-ne0-clause-prefix_len : goal.returns-then-written-ne0-clause-prefix_len
-returns-then-written-ne0-clause-prefix_len c =
+pub returns-then-written-ne0 : goal.returns-then-written-ne0
+returns-then-written-ne0 c =
     let w = c.complete-written in
     let a = c.args in
     let l = c.line in
@@ -22,33 +22,14 @@ returns-then-written-ne0-clause-prefix_len c =
     let is : refused_line w.result.no ≡ printed a.bytes.now = rw no (sym s) in
     let e : take l.result.end l.new.out ≡ printed a.bytes.now = p.front ∙ is in
     let n : l.result.end ≡ length (printed a.bytes.now) = rw (← is) (omega (arith, p.ends)) in
-    counts _ _ _ n e
+    record { prefix_len = counts _ _ _ n e; out_after = e }
 
-pub returns-then-written-ne0-clause-out_after : goal.returns-then-written-ne0-clause-out_after
-returns-then-written-ne0-clause-out_after c =
-    let w = c.complete-written in
-    let a = c.args in
-    let l = c.line in
-    let no = ap (λ (r : Written). r.no) w.ensures.answer in
-    let s = (prints a.bytes.now a.out.now (omega (arith, c.requires))).1 (λ z. c.if-written-ne0.true (no ∙ z)) in
-    let p = (within l.ensures (line-few _ _) (omega (arith, c.requires, w.auto.out))).0 in
-    let is : refused_line w.result.no ≡ printed a.bytes.now = rw no (sym s) in
-    p.front ∙ is
-
-pub returns-clause-prefix_len : goal.returns-clause-prefix_len
-returns-clause-prefix_len c =
+pub returns : goal.returns
+returns c =
     let w = c.complete-written in
     let a = c.args in
     let no = ap (λ (r : Written). r.no) w.ensures.answer in
     let s = (prints a.bytes.now a.out.now (omega (arith, c.requires))).0 (sym no ∙ c.if-written-ne0.false) in
     let n : w.result.len ≡ length (printed a.bytes.now) = ap (λ (r : Written). r.len) w.ensures.answer ∙ s.0 in
     let e : take w.result.len w.new.out ≡ printed a.bytes.now = rw (w.ensures.answer, w.ensures.output) s.1 in
-    counts _ _ _ n e
-
-pub returns-clause-out_after : goal.returns-clause-out_after
-returns-clause-out_after c =
-    let w = c.complete-written in
-    let a = c.args in
-    let no = ap (λ (r : Written). r.no) w.ensures.answer in
-    let s = (prints a.bytes.now a.out.now (omega (arith, c.requires))).0 (sym no ∙ c.if-written-ne0.false) in
-    rw (w.ensures.answer, w.ensures.output) s.1
+    record { prefix_len = counts _ _ _ n e; out_after = e }

@@ -40,42 +40,39 @@ returns-then-count-gt-LISTED c =
     let a = c.args in
     let unsearched = refusal a.settings a.first a.count a.tail a.last tested in
     rw (le-ltb _ 18 c.if-out-lt18.false)
-    (let same = unsearched ∙ ap (refused a.settings) (sym c.why.ensures) in record { answer = as-answer same c.refuse.ensures.answer; output = as-output a.out.now same c.refuse.ensures.output })
+    (let same = unsearched ∙ ap (refused a.settings) (sym c.why.ensures) in
+    record {
+      answer = as-answer same c.refuse.ensures.answer;
+      output = as-output a.out.now same c.refuse.ensures.output;
+    })
 
 pub body-body-requires : goal.body-body-requires
 body-body-requires c =
-    let sized : c.args.count ≡ c.args.first % 16 + 1 =
-    c.if-count-first.false ∙ low-four c.args.first in
-    let small : c.args.count ≤ 5 =
-    omega (arith, c.if-count-gt-LISTED.false) in
-    (omega (arith, sized), small)
+    (omega (arith, c.if-count-first.false ∙ low-four c.args.first), c.if-count-gt-LISTED.false)
 
 pub returns-then-sum-last : goal.returns-then-sum-last
 unfolding executed executed_out
 returns-then-sum-last c =
-    let sized : c.args.count ≡ c.args.first % 16 + 1 =
-    c.if-count-first.false ∙ low-four c.args.first in
-    let small : c.args.count ≤ 5 =
-    omega (arith, c.if-count-gt-LISTED.false) in
+    let sized = c.if-count-first.false ∙ low-four c.args.first in
     let a = c.args in
     let b = c.body-body in
     let bad =
-    short-bad a.settings a.first a.count a.tail a.last b.result small sized
+    short-bad a.settings a.first a.count a.tail a.last b.result c.if-count-gt-LISTED.false sized
     b.ensures.0 b.ensures.1 (λ e. c.if-sum-last.true (c.sum.ensures ∙ e)) in
-    rw (le-ltb _ 18 c.if-out-lt18.false) (record { answer = as-answer bad c.refuse-then-sum-last.ensures.answer; output = as-output a.out.now bad c.refuse-then-sum-last.ensures.output })
+    let refuse = c.refuse-then-sum-last.ensures in
+    rw (le-ltb _ 18 c.if-out-lt18.false)
+    (record { answer = as-answer bad refuse.answer; output = as-output a.out.now bad refuse.output })
 
 pub returns : goal.returns
 unfolding executed executed_out
 returns c =
-    let sized : c.args.count ≡ c.args.first % 16 + 1 =
-    c.if-count-first.false ∙ low-four c.args.first in
-    let small : c.args.count ≤ 5 =
-    omega (arith, c.if-count-gt-LISTED.false) in
+    let sized = c.if-count-first.false ∙ low-four c.args.first in
     let a = c.args in
     let b = c.body-body in
     let kind = c.find-kind.ensures ∙ ap (lookup commands a.first) c.command.ensures in
     let read =
-    short-read a.settings a.first a.count a.tail a.last b.result small sized
+    short-read a.settings a.first a.count a.tail a.last b.result c.if-count-gt-LISTED.false sized
     b.ensures.0 b.ensures.1 (sym c.sum.ensures ∙ c.if-sum-last.false) in
     rw (le-ltb _ 18 c.if-out-lt18.false)
-    (let same = read ∙ carry-kind a.settings (data_in b.result) _ _ (sym kind) in record { answer = as-answer same c.carry.ensures.answer; output = as-output a.out.now same c.carry.ensures.output })
+    (let same = read ∙ carry-kind a.settings (data_in b.result) _ _ (sym kind) in
+    record { answer = as-answer same c.carry.ensures.answer; output = as-output a.out.now same c.carry.ensures.output })

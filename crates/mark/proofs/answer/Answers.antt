@@ -14,8 +14,8 @@ slice_bounds-table-end c = let m = c.mark-marked in rw m.auto.table (counted m.e
 pub slice_bounds-text-end : goal.slice_bounds-text-end
 slice_bounds-text-end c = let m = c.mark-marked in simp length-take (omega (arith, m.auto.table, counted m.ensures))
 
-pub returns-clause-prefix_len : goal.returns-clause-prefix_len
-returns-clause-prefix_len c =
+pub returns : goal.returns
+returns c =
     let m = c.mark-marked in
     let t = c.text-written in
     let out = c.args.out.now in
@@ -25,16 +25,7 @@ returns-clause-prefix_len c =
     let text = text_of m.result starts in
     let n : t.result.len ≡ length text = rw t.ensures.answer (long (room_for starts) text out room) in
     let e : take t.result.len t.new.out ≡ text = rw (t.ensures.answer, t.ensures.output) (told (room_for starts) text out room) in
-    counts _ _ _ n e
-
-pub returns-clause-answers : goal.returns-clause-answers
-returns-clause-answers c =
-    let m = c.mark-marked in
-    let t = c.text-written in
-    let out = c.args.out.now in
-    let starts = take m.result.count m.new.table in
-    let few : m.result.count ≤ 5461 = rw (length-replicate {A = ℕ} 5461 0) at (counted m.ensures) in
-    let room : room_for starts ≤ length out = omega (arith, few, length-take m.result.count m.new.table, c.requires) in
-    let text = text_of m.result starts in
-    let e : take t.result.len t.new.out ≡ text = rw (t.ensures.answer, t.ensures.output) (told (room_for starts) text out room) in
-    record { marked = m.result; table = m.new.table; marks = m.ensures; told = e }
+    record {
+      prefix_len = counts _ _ _ n e;
+      answers = record { marked = m.result; table = m.new.table; marks = m.ensures; told = e };
+    }

@@ -1,15 +1,11 @@
 -- `pass` meets its contract.
-use Prim.Native.Nat.{◌+◌}
-use mathlib.Core.Path.{◌≡◌, refl, ap, ◌∙◌, subst}
+use mathlib.Core.Path.{refl, ap, ◌∙◌}
 use native.Mathlib.Omega.{arith}
 use borrow.Author.Rules.{rules}
 use borrow.Author.Tests.{not-false}
-use lib.ListN.{get_or}
-use Rattle.record.specs.Bytes.{entries_of, no_entry}
 use Rattle.cursor.specs.declared.Taken.{Taken}
-use Rattle.cursor.proofs.Places.{moves}
-use Rattle.marker.specs.Steps.{stepped, Steps, fills_block}
-use Rattle.marker.proofs.Judged.{no_start, start}
+use Rattle.marker.specs.Steps.{stepped, fills_block}
+use Rattle.marker.proofs.Judged.{of-record, one-on, no_start, start}
 use Rattle.marker.proofs.pass.Goals as goal
 
 pub loop-place-init : goal.loop-place-init
@@ -23,22 +19,17 @@ returns-then-not-l c =
 
 pub loop-place-smaller-then-l : goal.loop-place-smaller-then-l
 loop-place-smaller-then-l c =
-    let onward : c.take-t.result.place ≡ c.loop-place.place + 1 =
-    ap (λ (t : Taken). t.place) c.take-t.ensures
-    ∙ moves c.args.bytes.now c.loop-place.place c.loop-place-test.true in
-    omega (arith, onward)
+    let on = one-on c.args.bytes.now c.loop-place.place c.take-t.result c.take-t.ensures c.loop-place-test.true in
+    omega (arith, on)
 
 pub loop-place-preserved-then-l : goal.loop-place-preserved-then-l
 loop-place-preserved-then-l c =
-    let steps : (let bytes = c.args.bytes.now in Steps c.loop-place.marker (get_or (entries_of bytes) c.loop-place.place no_entry) (stepped c.light-l.result)) =
-    subst (λ (t : Taken). Steps c.loop-place.marker t.entry (stepped c.light-l.result))
-    c.take-t.ensures (c.light-l.ensures.0 (not-false _ c.if-not-l.false)) in
-    let onward : c.take-t.result.place ≡ c.loop-place.place + 1 =
-    ap (λ (t : Taken). t.place) c.take-t.ensures
-    ∙ moves c.args.bytes.now c.loop-place.place c.loop-place-test.true in
+    let steps = of-record c.args.bytes.now c.loop-place.place _ c.loop-place.marker (stepped c.light-l.result) c.take-t.ensures
+    (c.light-l.ensures.0 (not-false _ c.if-not-l.false)) in
+    let on = one-on c.args.bytes.now c.loop-place.place c.take-t.result c.take-t.ensures c.loop-place-test.true in
     let a = c.args in
     let v = c.loop-place in
-    rw onward (
+    rw on (
       start a.bytes.now a.table.now v.table v.marker v.count v.place v.invariant.0 (search rules)
           (stepped c.light-l.result) steps refl c.if-l.true (search rules),
       search rules,
@@ -47,22 +38,17 @@ loop-place-preserved-then-l c =
 
 pub loop-place-smaller : goal.loop-place-smaller
 loop-place-smaller c =
-    let onward : c.take-t.result.place ≡ c.loop-place.place + 1 =
-    ap (λ (t : Taken). t.place) c.take-t.ensures
-    ∙ moves c.args.bytes.now c.loop-place.place c.loop-place-test.true in
-    omega (arith, onward)
+    let on = one-on c.args.bytes.now c.loop-place.place c.take-t.result c.take-t.ensures c.loop-place-test.true in
+    omega (arith, on)
 
 pub loop-place-preserved : goal.loop-place-preserved
 loop-place-preserved c =
-    let steps : (let bytes = c.args.bytes.now in Steps c.loop-place.marker (get_or (entries_of bytes) c.loop-place.place no_entry) (stepped c.light-l.result)) =
-    subst (λ (t : Taken). Steps c.loop-place.marker t.entry (stepped c.light-l.result))
-    c.take-t.ensures (c.light-l.ensures.0 (not-false _ c.if-not-l.false)) in
-    let onward : c.take-t.result.place ≡ c.loop-place.place + 1 =
-    ap (λ (t : Taken). t.place) c.take-t.ensures
-    ∙ moves c.args.bytes.now c.loop-place.place c.loop-place-test.true in
+    let steps = of-record c.args.bytes.now c.loop-place.place _ c.loop-place.marker (stepped c.light-l.result) c.take-t.ensures
+    (c.light-l.ensures.0 (not-false _ c.if-not-l.false)) in
+    let on = one-on c.args.bytes.now c.loop-place.place c.take-t.result c.take-t.ensures c.loop-place-test.true in
     let a = c.args in
     let v = c.loop-place in
-    rw onward (
+    rw on (
       no_start a.bytes.now a.table.now v.table v.marker v.count v.place v.invariant.0 (search rules)
           (stepped c.light-l.result) steps refl c.if-l.false,
       search rules,

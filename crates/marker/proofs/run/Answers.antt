@@ -1,16 +1,11 @@
 -- `run` meets its contract.
-use Prim.Native.Nat.{◌+◌, ◌≤◌, ◌<◌}
-use mathlib.Core.Path.{◌≡◌, refl, sym, ap, ◌∙◌, subst}
+use mathlib.Core.Path.{refl, sym, ap, ◌∙◌}
 use native.Mathlib.Omega.{arith}
 use borrow.Author.Rules.{rules}
-use lib.ListN.{length, get_or}
-use Rattle.record.specs.Bytes.{entries_of, no_entry}
 use Rattle.record.proofs.Bytes.{length-entries}
 use Rattle.cursor.specs.declared.Taken.{Taken}
-use Rattle.cursor.proofs.Places.{moves}
-use Rattle.marker.specs.Steps.{Steps, fills_block}
-use Rattle.marker.specs.Marks.{Leads}
-use Rattle.marker.proofs.Judged.{begins-so, from-here, across, ended, faulty, no_start, start}
+use Rattle.marker.specs.Steps.{fills_block}
+use Rattle.marker.proofs.Judged.{begins-so, from-here, across, of-record, one-on, has-room, ended, faulty, no_start, start}
 use Rattle.marker.proofs.run.Goals as goal
 
 pub loop-i-init : goal.loop-i-init
@@ -28,16 +23,12 @@ go-r-requires c =
 
 pub shape_of-table-then-r-ne0 : goal.shape_of-table-then-r-ne0
 shape_of-table-then-r-ne0 c =
-    let passed : (let a = c.args in let p = c.pass-p.result in Leads a.bytes.now a.table.now c.pass-p.new.table p.marker p.count p.place) =
-    across c.loop-i.invariant c.pass-p.ensures.0 c.pass-p.ensures.1 in
-    passed.size
+    (across c.loop-i.invariant c.pass-p.ensures.0 c.pass-p.ensures.1).size
 
 pub returns-then-r-ne0 : goal.returns-then-r-ne0
 returns-then-r-ne0 c =
-    let passed : (let a = c.args in let p = c.pass-p.result in Leads a.bytes.now a.table.now c.pass-p.new.table p.marker p.count p.place) =
-    across c.loop-i.invariant c.pass-p.ensures.0 c.pass-p.ensures.1 in
-    let stepped : (let bytes = c.args.bytes.now in Steps c.pass-p.result.marker (get_or (entries_of bytes) c.pass-p.result.place no_entry) c.go-r.result) =
-    subst (λ (t : Taken). Steps c.pass-p.result.marker t.entry c.go-r.result) c.take-t.ensures c.go-r.ensures in
+    let passed = across c.loop-i.invariant c.pass-p.ensures.0 c.pass-p.ensures.1 in
+    let stepped = of-record c.args.bytes.now c.pass-p.result.place _ c.pass-p.result.marker _ c.take-t.ensures c.go-r.ensures in
     let a = c.args in
     let v = passed in
     let r = c.pass-p.result in
@@ -51,94 +42,58 @@ returns-then-r-ne0 c =
 
 pub overflow_cast-table : goal.overflow_cast-table
 overflow_cast-table c =
-    let passed : (let a = c.args in let p = c.pass-p.result in Leads a.bytes.now a.table.now c.pass-p.new.table p.marker p.count p.place) =
-    across c.loop-i.invariant c.pass-p.ensures.0 c.pass-p.ensures.1 in
-    let room : (let p = c.pass-p in (p.result.place ≤ 65532) × (p.result.count < length p.new.table) × (p.result.count < 65532)) =
-    let v = passed in
-    let h = c.if-i-n.true in
-    let f = c.requires in
-    (omega (arith, v.within, f.0), omega (arith, v.few, v.size, h, f), omega (arith, v.few, v.within, h, f.0)) in
+    let passed = across c.loop-i.invariant c.pass-p.ensures.0 c.pass-p.ensures.1 in
+    let room = has-room passed c.if-i-n.true c.requires.0 c.requires.1 in
     omega (arith, room)
 
 pub offset_bounds-table-count : goal.offset_bounds-table-count
 offset_bounds-table-count c =
-    let passed : (let a = c.args in let p = c.pass-p.result in Leads a.bytes.now a.table.now c.pass-p.new.table p.marker p.count p.place) =
-    across c.loop-i.invariant c.pass-p.ensures.0 c.pass-p.ensures.1 in
-    let room : (let p = c.pass-p in (p.result.place ≤ 65532) × (p.result.count < length p.new.table) × (p.result.count < 65532)) =
-    let v = passed in
-    let h = c.if-i-n.true in
-    let f = c.requires in
-    (omega (arith, v.within, f.0), omega (arith, v.few, v.size, h, f), omega (arith, v.few, v.within, h, f.0)) in
+    let passed = across c.loop-i.invariant c.pass-p.ensures.0 c.pass-p.ensures.1 in
+    let room = has-room passed c.if-i-n.true c.requires.0 c.requires.1 in
     omega (arith, room)
 
 pub bounds-table-count : goal.bounds-table-count
 bounds-table-count c =
-    let passed : (let a = c.args in let p = c.pass-p.result in Leads a.bytes.now a.table.now c.pass-p.new.table p.marker p.count p.place) =
-    across c.loop-i.invariant c.pass-p.ensures.0 c.pass-p.ensures.1 in
-    let room : (let p = c.pass-p in (p.result.place ≤ 65532) × (p.result.count < length p.new.table) × (p.result.count < 65532)) =
-    let v = passed in
-    let h = c.if-i-n.true in
-    let f = c.requires in
-    (omega (arith, v.within, f.0), omega (arith, v.few, v.size, h, f), omega (arith, v.few, v.within, h, f.0)) in
+    let passed = across c.loop-i.invariant c.pass-p.ensures.0 c.pass-p.ensures.1 in
+    let room = has-room passed c.if-i-n.true c.requires.0 c.requires.1 in
     room.1
 
 pub overflow_add-count : goal.overflow_add-count
 overflow_add-count c =
-    let passed : (let a = c.args in let p = c.pass-p.result in Leads a.bytes.now a.table.now c.pass-p.new.table p.marker p.count p.place) =
-    across c.loop-i.invariant c.pass-p.ensures.0 c.pass-p.ensures.1 in
-    let room : (let p = c.pass-p in (p.result.place ≤ 65532) × (p.result.count < length p.new.table) × (p.result.count < 65532)) =
-    let v = passed in
-    let h = c.if-i-n.true in
-    let f = c.requires in
-    (omega (arith, v.within, f.0), omega (arith, v.few, v.size, h, f), omega (arith, v.few, v.within, h, f.0)) in
+    let passed = across c.loop-i.invariant c.pass-p.ensures.0 c.pass-p.ensures.1 in
+    let room = has-room passed c.if-i-n.true c.requires.0 c.requires.1 in
     omega (arith, room)
 
 pub loop-i-smaller-then-r : goal.loop-i-smaller-then-r
 loop-i-smaller-then-r c =
-    let onward : c.take-t.result.place ≡ c.pass-p.result.place + 1 =
-    ap (λ (t : Taken). t.place) c.take-t.ensures
-    ∙ moves c.args.bytes.now c.pass-p.result.place c.if-i-n.true in
-    omega (arith, onward, c.if-i-n.true, c.pass-p.ensures)
+    let on = one-on c.args.bytes.now c.pass-p.result.place c.take-t.result c.take-t.ensures c.if-i-n.true in
+    omega (arith, on, c.if-i-n.true, c.pass-p.ensures)
 
 pub loop-i-preserved-then-r : goal.loop-i-preserved-then-r
 loop-i-preserved-then-r c =
-    let passed : (let a = c.args in let p = c.pass-p.result in Leads a.bytes.now a.table.now c.pass-p.new.table p.marker p.count p.place) =
-    across c.loop-i.invariant c.pass-p.ensures.0 c.pass-p.ensures.1 in
-    let room : (let p = c.pass-p in (p.result.place ≤ 65532) × (p.result.count < length p.new.table) × (p.result.count < 65532)) =
-    let v = passed in
-    let h = c.if-i-n.true in
-    let f = c.requires in
-    (omega (arith, v.within, f.0), omega (arith, v.few, v.size, h, f), omega (arith, v.few, v.within, h, f.0)) in
-    let stepped : (let bytes = c.args.bytes.now in Steps c.pass-p.result.marker (get_or (entries_of bytes) c.pass-p.result.place no_entry) c.go-r.result) =
-    subst (λ (t : Taken). Steps c.pass-p.result.marker t.entry c.go-r.result) c.take-t.ensures c.go-r.ensures in
-    let onward : c.take-t.result.place ≡ c.pass-p.result.place + 1 =
-    ap (λ (t : Taken). t.place) c.take-t.ensures
-    ∙ moves c.args.bytes.now c.pass-p.result.place c.if-i-n.true in
+    let passed = across c.loop-i.invariant c.pass-p.ensures.0 c.pass-p.ensures.1 in
+    let room = has-room passed c.if-i-n.true c.requires.0 c.requires.1 in
+    let stepped = of-record c.args.bytes.now c.pass-p.result.place _ c.pass-p.result.marker _ c.take-t.ensures c.go-r.ensures in
+    let on = one-on c.args.bytes.now c.pass-p.result.place c.take-t.result c.take-t.ensures c.if-i-n.true in
     let a = c.args in
     let r = c.pass-p.result in
-    rw onward
+    rw on
     (start a.bytes.now a.table.now c.pass-p.new.table r.marker r.count r.place passed
     c.if-i-n.true c.go-r.result stepped c.if-r-ne0.false c.if-r.true room.1)
 
 pub loop-i-smaller-else-r : goal.loop-i-smaller-else-r
 loop-i-smaller-else-r c =
-    let onward : c.take-t.result.place ≡ c.pass-p.result.place + 1 =
-    ap (λ (t : Taken). t.place) c.take-t.ensures
-    ∙ moves c.args.bytes.now c.pass-p.result.place c.if-i-n.true in
-    omega (arith, onward, c.if-i-n.true, c.pass-p.ensures)
+    let on = one-on c.args.bytes.now c.pass-p.result.place c.take-t.result c.take-t.ensures c.if-i-n.true in
+    omega (arith, on, c.if-i-n.true, c.pass-p.ensures)
 
 pub loop-i-preserved-else-r : goal.loop-i-preserved-else-r
 loop-i-preserved-else-r c =
-    let passed : (let a = c.args in let p = c.pass-p.result in Leads a.bytes.now a.table.now c.pass-p.new.table p.marker p.count p.place) =
-    across c.loop-i.invariant c.pass-p.ensures.0 c.pass-p.ensures.1 in
-    let stepped : (let bytes = c.args.bytes.now in Steps c.pass-p.result.marker (get_or (entries_of bytes) c.pass-p.result.place no_entry) c.go-r.result) =
-    subst (λ (t : Taken). Steps c.pass-p.result.marker t.entry c.go-r.result) c.take-t.ensures c.go-r.ensures in
-    let onward : c.take-t.result.place ≡ c.pass-p.result.place + 1 =
-    ap (λ (t : Taken). t.place) c.take-t.ensures
-    ∙ moves c.args.bytes.now c.pass-p.result.place c.if-i-n.true in
+    let passed = across c.loop-i.invariant c.pass-p.ensures.0 c.pass-p.ensures.1 in
+    let stepped = of-record c.args.bytes.now c.pass-p.result.place _ c.pass-p.result.marker _ c.take-t.ensures c.go-r.ensures in
+    let on = one-on c.args.bytes.now c.pass-p.result.place c.take-t.result c.take-t.ensures c.if-i-n.true in
     let a = c.args in
     let r = c.pass-p.result in
-    rw onward
+    rw on
     (no_start a.bytes.now a.table.now c.pass-p.new.table r.marker r.count r.place passed
     c.if-i-n.true c.go-r.result stepped c.if-r-ne0.false c.if-r.false)
 
@@ -148,9 +103,7 @@ loop-i-smaller c =
 
 pub loop-i-preserved : goal.loop-i-preserved
 loop-i-preserved c =
-    let passed : (let a = c.args in let p = c.pass-p.result in Leads a.bytes.now a.table.now c.pass-p.new.table p.marker p.count p.place) =
-    across c.loop-i.invariant c.pass-p.ensures.0 c.pass-p.ensures.1 in
-    passed
+    across c.loop-i.invariant c.pass-p.ensures.0 c.pass-p.ensures.1
 
 pub returns : goal.returns
 returns c =

@@ -1,6 +1,6 @@
 -- `Deck::late` meets its contract: the time-out NAK, and behind it what the byte does.
 use Prim.Native.Nat.{◌-◌, ◌≤◌}
-use mathlib.Core.Path.{◌≡◌, refl, ap, ◌∙◌}
+use mathlib.Core.Path.{refl, ap, ◌∙◌}
 use mathlib.Core.List.{[], ◌∷◌}
 use native.Mathlib.Omega.{arith}
 use borrow.Rule.Slice.PartMut.{mid_of}
@@ -9,7 +9,7 @@ use Rattle.execute.specs.Replies.{nak, time_out}
 use Rattle.deck.specs.Line.{deck, voided}
 use Rattle.deck.specs.Calls.{Call, view}
 use Rattle.deck.proofs.Found.{late-in-quiet, late-flagged, late-clean}
-use Rattle.deck.proofs.Late.{missed, overdue}
+use Rattle.deck.proofs.Late.{overdue}
 use Rattle.deck.proofs.Output.{behind, nak-answer, nak-output}
 use Rattle.deck.proofs.Seen.{same-call}
 use Rattle.deck.proofs.Deck.late.Goals as goal
@@ -24,16 +24,14 @@ nak-answer-requires c =
 
 pub returns-then-time-deck : goal.returns-then-time-deck
 returns-then-time-deck c =
-    let free : c.nak-answer.result.deck.free ≡ (missed (view c.args.self)).deck.free =
-    ap (λ (x : Call). x.deck.free) c.nak-answer.ensures.0 in
+    let free = ap (λ (x : Call). x.deck.free) c.nak-answer.ensures.0 in
     let a = c.args in
     let k = c.nak-answer.ensures in
     (rw (late-in-quiet (view a.self) a.time a.content a.flags c.requires.0 (rw (← free) c.if-time-deck.true)) k.0, k.1)
 
 pub returns-then-flags-ne0 : goal.returns-then-flags-ne0
 returns-then-flags-ne0 c =
-    let free : c.nak-answer.result.deck.free ≡ (missed (view c.args.self)).deck.free =
-    ap (λ (x : Call). x.deck.free) c.nak-answer.ensures.0 in
+    let free = ap (λ (x : Call). x.deck.free) c.nak-answer.ensures.0 in
     let a = c.args in
     let k = c.nak-answer.ensures.0 in
     let m = c.nak-written.ensures in
@@ -52,8 +50,7 @@ returns-then-flags-ne0 c =
 
 pub returns : goal.returns
 returns c =
-    let free : c.nak-answer.result.deck.free ≡ (missed (view c.args.self)).deck.free =
-    ap (λ (x : Call). x.deck.free) c.nak-answer.ensures.0 in
+    let free = ap (λ (x : Call). x.deck.free) c.nak-answer.ensures.0 in
     let a = c.args in
     let k = c.nak-answer.ensures.0 in
     let v = c.begin.ensures in (

@@ -1,8 +1,6 @@
 -- `Deck::looked` meets its contract.
-use mathlib.Core.Bool.{true}
-use mathlib.Core.Path.{◌≡◌, sym, ◌∙◌}
+use mathlib.Core.Path.{sym, ◌∙◌}
 use native.Mathlib.Omega.{arith}
-use Rattle.deck.specs.Line.{timed_out}
 use Rattle.deck.specs.Calls.{view}
 use Rattle.deck.proofs.Late.{overdue}
 use Rattle.deck.proofs.Steps.{look-found, look-nothing}
@@ -11,22 +9,19 @@ use Rattle.deck.proofs.Deck.looked.Goals as goal
 
 pub overflow_add-self : goal.overflow_add-self
 overflow_add-self c =
-    let late : timed_out (view c.args.self) c.args.time ≡ true =
-    sym c.timed_out.ensures ∙ c.if-timed_out.true in
+    let late = sym c.timed_out.ensures ∙ c.if-timed_out.true in
     let a = c.args in
     omega (arith, overdue (view a.self) a.time late)
 
 pub nak-requires : goal.nak-requires
 nak-requires c =
-    let late : timed_out (view c.args.self) c.args.time ≡ true =
-    sym c.timed_out.ensures ∙ c.if-timed_out.true in
+    let late = sym c.timed_out.ensures ∙ c.if-timed_out.true in
     let a = c.args in
     (omega (arith, overdue (view a.self) a.time late), omega arith)
 
 pub returns-then-timed_out : goal.returns-then-timed_out
 returns-then-timed_out c =
-    let late : timed_out (view c.args.self) c.args.time ≡ true =
-    sym c.timed_out.ensures ∙ c.if-timed_out.true in
+    let late = sym c.timed_out.ensures ∙ c.if-timed_out.true in
     let a = c.args in
     let n = c.nak.ensures in
     (rw (look-found (view a.self) a.time late) n.0, λ _. n.1)

@@ -1,5 +1,6 @@
 -- `number::refusal` meets its contract: the tests of the code are those of the definition, in its order.
-use mathlib.Core.Bool.{true, cond, not}
+use mathlib.Core.Bool.{cond, not}
+use Prim.Native.Nat.{ℕ, ◌≤◌}
 use mathlib.Core.Path.{◌≡◌}
 use native.Mathlib.Omega.{arith}
 use borrow.Author.Tests.{lt-ltb, le-ltb, le-leb, lt-leb}
@@ -8,6 +9,12 @@ use Rattle.deck.specs.Calls.{flags_fit, refusal}
 use Rattle.deck.proofs.Flags.{fit, unfit}
 use Rattle.timecode.specs.Time.{day}
 use Rattle.deck.proofs.number.refusal.Goals as goal
+
+-- past the tests of room and time
+past : (room clock time flags place : ℕ) → 18 ≤ room → time ≤ 281_474_976_710_655 → clock ≤ time
+    → refusal room clock time flags place ≡ cond (not (flags_fit flags)) 4 (cond (leb day place) 5 0)
+unfolding refusal
+past room clock time flags place r l b = simp (le-ltb _ _ r, le-ltb _ _ l, le-ltb _ _ b)
 
 pub returns-then-room-lt18 : goal.returns-then-room-lt18
 unfolding refusal
@@ -23,26 +30,18 @@ returns-then-time-clock c =
     simp (le-ltb _ _ c.if-room-lt18.false, le-ltb _ _ c.if-time-gt-LAST_TIME.false, lt-ltb _ _ c.if-time-clock.true)
 
 pub returns-then-flags-ne0 : goal.returns-then-flags-ne0
-unfolding refusal
 returns-then-flags-ne0 c =
-    let left : (let a = c.args in refusal a.room a.clock a.time a.flags a.place ≡ cond (not (flags_fit a.flags)) 4 (cond (leb day a.place) 5 0)) =
-    simp (le-ltb _ _ c.if-room-lt18.false, le-ltb _ _ c.if-time-gt-LAST_TIME.false, le-ltb _ _ c.if-time-clock.false) in
+    let left = past c.args.room c.args.clock c.args.time c.args.flags c.args.place c.if-room-lt18.false c.if-time-gt-LAST_TIME.false c.if-time-clock.false in
     rw (left, unfit c.args.flags (omega arith) c.if-flags-ne0.true)
 
 pub returns-then-place-ge-DAY : goal.returns-then-place-ge-DAY
-unfolding refusal
 returns-then-place-ge-DAY c =
-    let left : (let a = c.args in refusal a.room a.clock a.time a.flags a.place ≡ cond (not (flags_fit a.flags)) 4 (cond (leb day a.place) 5 0)) =
-    simp (le-ltb _ _ c.if-room-lt18.false, le-ltb _ _ c.if-time-gt-LAST_TIME.false, le-ltb _ _ c.if-time-clock.false) in
-    let fits : flags_fit c.args.flags ≡ true =
-    fit c.args.flags (omega arith) c.if-flags-ne0.false in
+    let left = past c.args.room c.args.clock c.args.time c.args.flags c.args.place c.if-room-lt18.false c.if-time-gt-LAST_TIME.false c.if-time-clock.false in
+    let fits = fit c.args.flags (omega arith) c.if-flags-ne0.false in
     rw (left, fits, le-leb day _ c.if-place-ge-DAY.true)
 
 pub returns : goal.returns
-unfolding refusal
 returns c =
-    let left : (let a = c.args in refusal a.room a.clock a.time a.flags a.place ≡ cond (not (flags_fit a.flags)) 4 (cond (leb day a.place) 5 0)) =
-    simp (le-ltb _ _ c.if-room-lt18.false, le-ltb _ _ c.if-time-gt-LAST_TIME.false, le-ltb _ _ c.if-time-clock.false) in
-    let fits : flags_fit c.args.flags ≡ true =
-    fit c.args.flags (omega arith) c.if-flags-ne0.false in
+    let left = past c.args.room c.args.clock c.args.time c.args.flags c.args.place c.if-room-lt18.false c.if-time-gt-LAST_TIME.false c.if-time-clock.false in
+    let fits = fit c.args.flags (omega arith) c.if-flags-ne0.false in
     rw (left, fits, lt-leb day _ c.if-place-ge-DAY.false)

@@ -18,26 +18,25 @@ returns-then-n-lt1 c =
     let same : carry Status a.s (data_in a.body) ≡ refused a.s undefined = elim c.then-n-lt1.branch [
       | then-n-lt1-via-then-n-lt1 w ↦ status-under a.s (data_in a.body) n first w.if-n-lt1.true
       | then-n-lt1-via-else-n-lt1+then-n-gt13 w ↦ status-over a.s (data_in a.body) n first w.if-n-lt1.false w.if-n-gt13.true
-    ] in record { answer = as-answer same c.refuse.ensures.answer; output = as-output a.out.now same c.refuse.ensures.output }
+    ] in
+    record {
+      answer = as-answer same c.refuse.ensures.answer;
+      output = as-output a.out.now same c.refuse.ensures.output;
+    }
 
 pub slice_bounds-bytes-end : goal.slice_bounds-bytes-end
 slice_bounds-bytes-end c =
-    let few : get_or c.data-data.result 0 0 ≤ length c.status-bytes.result =
-    let most = c.if-n-gt13.false in
-    rw c.status-bytes.ensures (omega (arith, status-length c.args.s, most)) in
-    few
+    rw c.status-bytes.ensures (omega (arith, status-length c.args.s, c.if-n-gt13.false))
 
 pub slice_bounds-answer-end : goal.slice_bounds-answer-end
 slice_bounds-answer-end c =
     let few : get_or c.data-data.result 0 0 ≤ length c.status-bytes.result =
-    let most = c.if-n-gt13.false in
-    rw c.status-bytes.ensures (omega (arith, status-length c.args.s, most)) in
+    rw c.status-bytes.ensures (omega (arith, status-length c.args.s, c.if-n-gt13.false)) in
     simp length-take (omega (arith, few))
 
 pub answer-requires : goal.answer-requires
 answer-requires c =
-    let most = c.if-n-gt13.false in
-    (omega arith, simp length-take (omega (arith, most)), c.requires)
+    (omega arith, simp length-take (omega (arith, c.if-n-gt13.false)), c.requires)
 
 pub returns : goal.returns
 returns c =
@@ -47,4 +46,8 @@ returns c =
     let same = status-read a.s (data_in a.body) n (first-in d.ensures) c.status-bytes.result
     c.if-n-lt1.false
     c.if-n-gt13.false
-    c.status-bytes.ensures in record { answer = as-answer same c.answer.ensures.answer; output = as-output a.out.now same c.answer.ensures.output }
+    c.status-bytes.ensures in
+    record {
+      answer = as-answer same c.answer.ensures.answer;
+      output = as-output a.out.now same c.answer.ensures.output;
+    }

@@ -17,7 +17,11 @@ returns-then-n-lt1 c =
     let same : carry TapeTime a.s (data_in a.body) ≡ refused a.s undefined = elim c.then-n-lt1.branch [
       | then-n-lt1-via-then-n-lt1 w ↦ time-under a.s (data_in a.body) n first w.if-n-lt1.true
       | then-n-lt1-via-else-n-lt1+then-n-gt4 w ↦ time-over a.s (data_in a.body) n first w.if-n-lt1.false w.if-n-gt4.true
-    ] in record { answer = as-answer same c.refuse.ensures.answer; output = as-output a.out.now same c.refuse.ensures.output }
+    ] in
+    record {
+      answer = as-answer same c.refuse.ensures.answer;
+      output = as-output a.out.now same c.refuse.ensures.output;
+    }
 
 pub returns : goal.returns
 returns c =
@@ -30,4 +34,8 @@ returns c =
     let same = time-read a.s (data_in a.body) n (first-in d.ensures) c.if-n-eq2.code t.result
     c.if-n-lt1.false
     c.if-n-gt4.false
-    code t.ensures in record { answer = as-answer same c.answer.ensures.answer; output = as-output a.out.now same c.answer.ensures.output }
+    code t.ensures in
+    record {
+      answer = as-answer same c.answer.ensures.answer;
+      output = as-output a.out.now same c.answer.ensures.output;
+    }

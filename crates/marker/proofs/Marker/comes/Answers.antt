@@ -2,7 +2,7 @@
 use mathlib.Core.Path.{◌≡◌, refl, sym, ◌∙◌}
 use mathlib.Core.Bool.{false}
 use native.Mathlib.Omega.{arith}
-use borrow.Author.Tests.{eqb-true, not-false}
+use borrow.Author.Tests.{eqb-true}
 use Rattle.marker.proofs.Tests.{shut}
 use Rattle.marker.proofs.Passing.{untaken}
 use Rattle.marker.proofs.Marker.comes.Goals as goal
@@ -31,7 +31,7 @@ returns c = λ p.
       range = omega (arith, c.if-e-gt-LAST_TIME.false);
       order = c.if-e-deck.false;
       shut = shut d.held d.first d.tail c.if-deck-ne0.false;
-      awaits = sym c.any.ensures ∙ not-false _ c.if-not-any.false-raw;
+      awaits = sym c.any.ensures ∙ c.if-not-any.false;
       soon = c.if-waits-e.false;
       next = q ∙ c.next.ensures;
       small = omega (arith, q);

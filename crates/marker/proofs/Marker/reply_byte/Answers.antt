@@ -2,8 +2,6 @@
 use mathlib.Core.Path.{◌∙◌}
 use native.Mathlib.Omega.{arith}
 use Rattle.marker.proofs.Filled.{unfilled-kind}
-use borrow.Author.Tests.{not-false}
-use Rattle.marker.specs.Steps.{Expected}
 use Rattle.marker.proofs.Passing.{untaken, arrives}
 use Rattle.marker.proofs.Marker.reply_byte.Goals as goal
 
@@ -14,14 +12,11 @@ returns-then-not-comes c =
 
 pub taken-self-requires : goal.taken-self-requires
 taken-self-requires c =
-    let expected : (let a = c.args in Expected a.self a.e) =
-    c.comes.ensures (not-false _ c.if-not-comes.false-raw) in
-    expected.range
+    (c.comes.ensures c.if-not-comes.false).range
 
 pub returns : goal.returns
 returns c =
-    let expected : (let a = c.args in Expected a.self a.e) =
-    c.comes.ensures (not-false _ c.if-not-comes.false-raw) in
+    let expected = c.comes.ensures c.if-not-comes.false in
     let a = c.args in (
       λ p. arrives a.self a.e c.requires.1 c.requires.0 expected c.taken-self.result c.taken-self.ensures,
       unfilled-kind a.self a.e (λ z. omega (arith, c.requires.0)),

@@ -24,35 +24,30 @@ returns-then-not-meant c =
 
 pub overflow_cast-e : goal.overflow_cast-e
 overflow_cast-e c =
-    let is-meant : (let e = c.args.e in meant e.kind e ≡ true) =
-    sym c.meant.ensures ∙ c.if-not-meant.false in
+    let is-meant = sym c.meant.ensures ∙ c.if-not-meant.false in
     omega (arith, byte_small c.args.e is-meant c.in-0.is)
 
 pub returns-in-0 : goal.returns-in-0
 returns-in-0 c =
-    let is-meant : (let e = c.args.e in meant e.kind e ≡ true) =
-    sym c.meant.ensures ∙ c.if-not-meant.false in
+    let is-meant = sym c.meant.ensures ∙ c.if-not-meant.false in
     let e = c.args.e in
     answered is-meant (rw (handed-byte e c.in-0.is) c.byte.ensures)
 
 pub returns-in-1 : goal.returns-in-1
 returns-in-1 c =
-    let is-meant : (let e = c.args.e in meant e.kind e ≡ true) =
-    sym c.meant.ensures ∙ c.if-not-meant.false in
+    let is-meant = sym c.meant.ensures ∙ c.if-not-meant.false in
     let e = c.args.e in
     answered is-meant (rw (handed-look e c.in-1.is) c.look.ensures)
 
 pub returns-in-2 : goal.returns-in-2
 returns-in-2 c =
-    let is-meant : (let e = c.args.e in meant e.kind e ≡ true) =
-    sym c.meant.ensures ∙ c.if-not-meant.false in
+    let is-meant = sym c.meant.ensures ∙ c.if-not-meant.false in
     let e = c.args.e in
     answered is-meant (rw (handed-position e c.in-2.is) c.position.ensures)
 
 pub returns-in_default : goal.returns-in_default
 returns-in_default c =
-    let is-meant : (let e = c.args.e in meant e.kind e ≡ true) =
-    sym c.meant.ensures ∙ c.if-not-meant.false in
+    let is-meant = sym c.meant.ensures ∙ c.if-not-meant.false in
     let e = c.args.e in
     let k = handed-cassette e e.kind (search rules) (search rules) (search rules) in
     answered is-meant (rw k c.cassette.ensures)

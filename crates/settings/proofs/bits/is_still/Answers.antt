@@ -5,7 +5,9 @@ use mir.Syntax.{w32}
 use mir.Val.{SFits}
 use Rattle.settings.proofs.Signs.{back}
 use Rattle.settings.proofs.bits.is_still.Goals as goal
-use Rattle.settings.proofs.bits.is_still.Goals.{then-n-eq-SHUTTLE-via-then-n-eq-SHUTTLE, then-n-eq-SHUTTLE-via-else-n-eq-SHUTTLE+then-n-eq-JOG, then-n-eq-SHUTTLE-via-else-n-eq-SHUTTLE+else-n-eq-JOG+then-n-eq-VARIABLE}
+use Rattle.settings.proofs.bits.is_still.Goals.{then-n-eq-SHUTTLE-via-then-n-eq-SHUTTLE}
+use Rattle.settings.proofs.bits.is_still.Goals.{then-n-eq-SHUTTLE-via-else-n-eq-SHUTTLE+then-n-eq-JOG}
+use Rattle.settings.proofs.bits.is_still.Goals.{then-n-eq-SHUTTLE-via-else-n-eq-SHUTTLE+else-n-eq-JOG+then-n-eq-VARIABLE}
 
 -- The speed goes to `is_zero` as bits.
 pub returns-then-n-eq-SHUTTLE : goal.returns-then-n-eq-SHUTTLE

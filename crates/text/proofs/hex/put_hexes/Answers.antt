@@ -7,30 +7,11 @@ use lib.Seq.{take_all}
 use Rattle.text.specs.Text.{hexes}
 use Rattle.text.proofs.Putting.{none, three, joined}
 use Rattle.text.proofs.Hexadecimal.{hexes-more}
-use borrow.Author.Rules.{rules}
 use Rattle.text.proofs.hex.put_hexes.Goals as goal
 
 pub loop-i-init : goal.loop-i-init
 unfolding hexes
 loop-i-init c = (omega arith, refl, omega arith, none _ _)
-
-pub hex_digit-requires : goal.hex_digit-requires
-hex_digit-requires c =
-    let i = c.loop-i.i in
-    let byte = get_or c.args.bytes.now i 0 in
-    omega (arith, c.shared_slice_known-in-loop-i-1.given i, and_mask byte 4)
-
-pub bounds-out-end-in-loop-i : goal.bounds-out-end-in-loop-i
-bounds-out-end-in-loop-i c = simp length-set (search rules)
-
-pub hex_digit-requires-in-loop-i : goal.hex_digit-requires-in-loop-i
-hex_digit-requires-in-loop-i c =
-    let i = c.loop-i.i in
-    let byte = get_or c.args.bytes.now i 0 in
-    omega (arith, c.shared_slice_known-in-loop-i-1.given i, and_mask byte 4)
-
-pub bounds-out-end-in-loop-i-2 : goal.bounds-out-end-in-loop-i-2
-bounds-out-end-in-loop-i-2 c = simp length-set (search rules)
 
 pub loop-i-preserved : goal.loop-i-preserved
 loop-i-preserved c =
