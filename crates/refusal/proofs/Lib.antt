@@ -1,0 +1,2 @@
+-- That a number tells its refusal.
+pub mod Numbers
