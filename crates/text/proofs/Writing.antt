@@ -1,5 +1,5 @@
 -- A call that writes, and the text that it puts.
-use Rattle.std.specs.Prelude.{Result, Ok, Err}
+use Rattle.std.specs.Prelude.{Result, Ok, Err, IsOk, is_ok}
 use Prim.Native.Nat.{ℕ, ◌+◌, ◌≤◌}
 use mathlib.Core.Path.{◌≡◌, refl, sym, ap, ◌∙◌}
 use mathlib.Core.Bool.{true, false}
@@ -34,7 +34,7 @@ module _ (out : List ℕ) (at : ℕ) (text : List ℕ) where
   output-fits h = rw (le-ltb _ _ h, append_assoc)
 
 -- a call that was taken
-taken : (r : Result Unit Refusal) (end n : ℕ) → put_by r end ≡ record { no = 0; end = n } → (r ≡ Ok tt) × (end ≡ n)
+taken : (r : Result Unit Refusal) (end n : ℕ) → put_by r end ≡ record { no = 0; end = n } → IsOk r × (end ≡ n)
 taken (Ok tt) end n e = (refl, ap (λ (p : Put). p.end) e)
 taken (Err x) end n e = absurd (refuses x (ap (λ (p : Put). p.no) e))
 
@@ -67,7 +67,7 @@ module _ {a : Page} {text : List ℕ} (len : ℕ) where
 
 -- ---- one text behind another
 
-pub nothing : (a : Page) → Adds a [] a (Ok tt)
+pub nothing : (a : Page) → Adds a [] a (Ok (tt {0}))
 nothing a = record { fits = λ _. (refl, none a.out.now a.end); same = refl }
 
 long : {before : List ℕ} {at : ℕ} {text after : List ℕ} {end : ℕ} → Puts before at text after end → end ≤ length before
@@ -75,13 +75,13 @@ long : {before : List ℕ} {at : ℕ} {text after : List ℕ} {end : ℕ} → Pu
 long {before} {at} {text} {after} {end} p room =
     omega (arith, ap length p.front, ap length p.back, length-append (take at before) text, length-take at before, length-take end after, length-drop end after, length-drop end before, p.ends)
 
-module _ {a b : Page} {xs : List ℕ} {r : Result (Unit {0}) Refusal} (w : Adds a xs b r) where
+module _ {A : Type 0} {a b : Page} {xs : List ℕ} {r : Result A Refusal} (w : Adds a xs b r) where
   -- a page that has room for both has it for the first
   first : (ys : List ℕ) → Fits a (xs ++ ys) → Fits a xs
   first ys h = omega (arith, length-append xs ys)
 
-  pub behind : {ys : List ℕ} {c : Page} {s : Result (Unit {0}) Refusal} → Adds b ys c s → Adds a (xs ++ ys) c s
-  behind {ys} {c} {s} v =
+  pub behind : {B : Type 0} {ys : List ℕ} {c : Page} {s : Result B Refusal} → Adds b ys c s → Adds a (xs ++ ys) c s
+  behind {B} {ys} {c} {s} v =
       record {
         fits = λ h.
             let p = (w.fits (first ys h)).1 in
@@ -91,17 +91,19 @@ module _ {a b : Page} {xs : List ℕ} {r : Result (Unit {0}) Refusal} (w : Adds 
       }
 
   -- where the first was refused, no room was there for both
-  pub stops : {e : Refusal} → r ≡ Err e → (ys : List ℕ) (s : Result (Unit {0}) Refusal) → Adds a (xs ++ ys) b s
-  stops is ys s = record { fits = λ h. let e = (w.fits (first ys h)).0 in absurd (cc); same = w.same }
+  pub stops : {B : Type 0} {e : Refusal} → r ≡ Err e → (ys : List ℕ) (s : Result B Refusal) → Adds a (xs ++ ys) b s
+  stops is ys s = record { fits = λ h. let ok = (w.fits (first ys h)).0 in let err = ap is_ok is in absurd (cc); same = w.same }
 
-  pub written : Fits a xs → Writes a xs b r
+module _ {a b : Page} {xs : List ℕ} where
+  pub written : {r : Result (Unit {0}) Refusal} → Adds a xs b r → Fits a xs → Writes a xs b r
   unfolding put_in put_out
-  written h =
+  written {r = Ok tt} w h =
       let p = w.fits h in
       let q = p.1 in
       record {
-        answer = rw (p.0, put-fits a.out.now a.end xs h, q.ends);
+        answer = rw (put-fits a.out.now a.end xs h, q.ends);
         output = sym (take-append-drop b.end b.out.now) ∙ rw (q.front, q.back, q.ends, output-fits a.out.now a.end xs h);
-        place = λ err. let e = p.0 in absurd (cc);
+        place = λ err. absurd (cc);
         same = w.same;
       }
+  written {r = Err e} w h = let ok = (w.fits h).0 in absurd (cc)

@@ -6,4 +6,4 @@ use Rattle.text.specs.Puts.{Adds}
 use Rattle.text.proofs.Page.hexes.Given as goal
 
 abbrev pub invariant-loop-byte : goal.invariant-loop-byte
-invariant-loop-byte l = Adds l.initial.self (hexes (take l.byte-index l.bytes)) l.self (Ok tt)
+invariant-loop-byte l = Adds l.initial.self (hexes (take l.byte-index l.bytes)) l.self (Ok (tt {0}))
