@@ -23,6 +23,7 @@ pub mod Counts
 -- an entry by its kind: well formed, handed to the deck
 pub mod Forms
 pub mod ByKind
+pub mod KindTests
 -- entries as bytes
 pub mod Bytes
 pub mod Records

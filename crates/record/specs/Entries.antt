@@ -1,11 +1,27 @@
 -- Document 01, "Line record and turns": entries, and how the deck is handed them.
-use Rattle.std.specs.Prelude.{Bool, true, false, ◌&&◌, List, [], ◌∷◌, ◌++◌, map, ◌≡◌, ℕ, zero, suc, ◌^◌, T, eqb, ltb}
+use Rattle.std.specs.Prelude.{Bool, true, false, ◌&&◌, List, [], ◌∷◌, ◌++◌, map, ◌≡◌, ℕ, zero, suc, ◌^◌, Option, Some, None, Result, ok_or, T, eqb, ltb}
 use Rattle.timecode.specs.Time.{day}
 use Rattle.deck.specs.declared.Deck.{Deck as Held}
 use Rattle.deck.specs.declared.Answer.{Answer as Returned}
 use Rattle.deck.specs.Line.{Event, byte, look, position, cassette, Deck, Reply, after, says}
 use Rattle.deck.specs.Calls.{flags_fit, told, Answers}
+use Rattle.refusal.specs.declared.Refusal.{Refusal}
+use Rattle.refusal.specs.declared.Refusal.TheVariants.{Field}
 use Rattle.record.specs.declared.Entry.{Entry}
+use Rattle.record.specs.declared.kind.Kind.{Kind}
+use Rattle.record.specs.declared.kind.Kind.TheVariants.{Controller, Deck as DeckByte, Position, Cassette}
+
+-- "kind (0 controller byte, 1 deck byte, 2 position, 3 cassette loaded)"
+abbrev pub kind_of : ℕ → Option Kind
+kind_of zero = Some Controller
+kind_of (suc zero) = Some DeckByte
+kind_of (suc (suc zero)) = Some Position
+kind_of (suc (suc (suc zero))) = Some Cassette
+kind_of (suc (suc (suc (suc k)))) = None
+
+-- a byte that is no kind is a field out of its range: 9 FIELD
+abbrev pub kind_or_field : ℕ → Result Kind Refusal
+kind_or_field k = ok_or (kind_of k) Field
 
 abbrev pub entry : (kind flags content time : ℕ) → Entry
 entry k f c t = record { kind = k; flags = f; content = c; time = t }

@@ -3,7 +3,7 @@ ghost use Rattle.std.specs.Prelude.{◌≡◌};
 ghost use Rattle.deck.specs.Calls.{flags_fit};
 ghost use Rattle.record.specs.Entries.{fits, formed};
 
-use super::Entry;
+use super::{Entry, Kind};
 use deck::LAST_TIME;
 use timecode::DAY;
 
@@ -13,35 +13,21 @@ fn flags_fit(flags: u8) -> bool
     flags & 0x8F == 0
 }
 
+#[tactic(auto, using(crate::proofs::Forms::fits_by))]
 fn fits(e: Entry) -> bool
     ensures { result ≡ fits e.kind e }
 {
-    if e.kind == 0 {
-        if flags_fit(e.flags) {
-            return e.content < 256;
-        }
-        return false;
+    match e.kind() {
+        Some(Kind::Controller) => flags_fit(e.flags) && e.content < 256,
+        Some(Kind::Deck) => e.flags == 0 && e.content < 256,
+        Some(Kind::Position) => e.flags == 0 && e.content < DAY,
+        Some(Kind::Cassette) => e.flags == 0 && e.content == 0,
+        None => false,
     }
-    if e.flags != 0 {
-        return false;
-    }
-    if e.kind == 1 {
-        return e.content < 256;
-    }
-    if e.kind == 2 {
-        return e.content < DAY;
-    }
-    if e.kind == 3 {
-        return e.content == 0;
-    }
-    false
 }
 
 pub fn formed(e: Entry) -> bool
     ensures { result ≡ formed e }
 {
-    if fits(e) {
-        return e.time <= LAST_TIME;
-    }
-    false
+    fits(e) && e.time <= LAST_TIME
 }

@@ -8,9 +8,11 @@ ghost use Rattle.record.specs.Bytes.{entry_of, is_record, read_at, written, writ
 use deck::LAST_TIME;
 pub use form::formed;
 pub use handing::{hand, meant};
+pub use kind::Kind;
 
 mod form;
 mod handing;
+mod kind;
 
 const ROOM: u8 = 1;
 
