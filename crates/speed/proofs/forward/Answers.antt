@@ -1,17 +1,16 @@
 -- `speed::forward` meets its contract: its roots pass the tests of `Roots`.
-use borrow.Author.Rules.{rules}
+use Rattle.std.proofs.Common.{arith, rules}
 use Rattle.speed.specs.Speed.{speed_of, root}
 use Rattle.speed.proofs.Rule.{all}
-use Rattle.speed.proofs.Roots.{narrow, right, root-fits, product-fits, quotient_fits, quotient-bits}
+use Rattle.speed.proofs.Roots.{narrow, right, power_fits, product-fits, quotient_fits, quotient-bits}
 use Rattle.speed.proofs.forward.Goals as goal
 
 pub returns-then-n-eq0 : goal.returns-then-n-eq0
 unfolding speed_of
 returns-then-n-eq0 c = rw c.if-n-eq0.true
 
-pub overflow_cast-root-2 : goal.overflow_cast-root-2
-unfolding all narrow
-overflow_cast-root-2 c = search (root-fits, rules)
+pub pow-requires : goal.pow-requires
+pow-requires c = power_fits _ (omega arith)
 
 pub overflow_mul-result : goal.overflow_mul-result
 unfolding all narrow
