@@ -23,6 +23,7 @@ fn forward(n: u8) -> i32
     (root * 10u64.pow(u32::from(n / 32) + 1) / 268435456) as i32
 }
 
+#[tactic(auto, using(crate::proofs::Rule::rule, crate::proofs::Rule::small))]
 pub fn speed(n: u8, reverse: bool) -> i32
     ensures { (result ≡ signed reverse (speed_of n)) × IsSpeed n (speed_of n) }
 {
