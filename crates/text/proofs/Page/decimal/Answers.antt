@@ -1,10 +1,10 @@
--- `numbers::decimal` meets its contract.
+-- `Page::decimal` meets its contract.
 use mathlib.Core.Path.{◌≡◌, ◌∙◌}
 use native.Mathlib.Omega.{arith}
 use lib.ListN.{take}
 use Rattle.text.specs.Text.{decimal}
 use Rattle.text.proofs.Digits.{spells}
-use Rattle.text.proofs.numbers.decimal.Goals as goal
+use Rattle.text.proofs.Page.decimal.Goals as goal
 
 pub returns : goal.returns
 returns c =
