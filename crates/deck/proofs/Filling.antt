@@ -1,60 +1,61 @@
 -- A clean byte that fills the open block, and a flagged byte: the code's tests, and that they do what `byte` does.
-use Prim.Native.Nat.{ℕ, ◌+◌, ◌%◌, ◌≤◌, ◌<◌, min}
-use mathlib.Core.Path.{◌≡◌, refl, sym, ◌∙◌}
-use mathlib.Core.Bool.{Bool, true, false, not, and-false, false≢true}
+use Prim.Native.Nat.{ℕ, ◌+◌, ◌≤◌, ◌<◌}
+use mathlib.Core.Path.{◌≡◌, refl, sym, ap, ◌∙◌}
+use mathlib.Core.Bool.{Bool, true, false, not, ◌&&◌, and_assoc, and-false, false≢true}
 use mathlib.Core.List.{List, [], ◌∷◌, ◌++◌}
 use native.Mathlib.Decide.{dec_lt}
 use native.Mathlib.Omega.{arith}
 use borrow.Author.Tests.{lt-ltb, le-ltb, le-leb, lt-leb, eq-eqb, ne_eqb, ltb-true, ltb-false, leb-true, not-true}
-use lib.Dec.{leb, ltb}
+use lib.Dec.{eqb, leb, ltb}
 use lib.ListN.{length}
+use Rattle.std.proofs.Common.{Result, Ok, Err}
+use Rattle.std.specs.Result.{IsErrAnd}
+use Rattle.refusal.specs.declared.Refusal.{Refusal}
+use Rattle.refusal.specs.Numbers.{number_of}
 use Rattle.execute.specs.Execute.{execute}
+use Rattle.deck.specs.declared.Answer.{Answer as Answered}
 use Rattle.deck.specs.declared.Deck.{Deck as Held}
-use Rattle.deck.specs.declared.Answer.{Answer as Returned}
 use Rattle.deck.specs.Line.{Event, byte, silently, timed_out, looked, in_quiet, size, replied, answers}
-use Rattle.deck.specs.Calls.{refusal, number, told, view, Answers}
-use Rattle.deck.specs.Joins.{grows, fills, filling, striking, OnlyIf}
-use Rattle.deck.proofs.Steps.{look-nothing, taken-full, answers-clean}
-use Rattle.deck.proofs.Cases.{length_more}
-use Rattle.deck.proofs.Held.{length-open, sized}
+use Rattle.deck.specs.Calls.{refusal, number, view, Returned, returned, Answers}
+use Rattle.deck.specs.Joins.{grows, fills, filling, striking, unanswered, OnlyIf}
+use Rattle.deck.proofs.Steps.{look-nothing, answers-clean}
+use Rattle.deck.proofs.Held.{not-first, gets-full}
 use Rattle.deck.proofs.Late.{both_true}
 
 -- ---- the tests of the code
 
-module _ (d : Held) (t b : ℕ) where
-  pub fills-shut : d.held ≡ 0 → false ≡ fills (view d) t b
+ltb-not : (a b : ℕ) → ltb a b ≡ not (leb b a)
+ltb-not a b = go (dec_lt a b)
+  where
+    go : Dec (a < b) → ltb a b ≡ not (leb b a)
+    go (yes h) = lt-ltb a b h ∙ sym (ap not (lt-leb b a h))
+    go (no h) = le-ltb a b (omega arith) ∙ sym (ap not (le-leb b a (omega arith)))
+
+-- whether a byte is heard, and whether a clean one ends the block
+module _ (d : Held) (t b : ℕ) (heard ends : Bool) (h : heard ≡ not (timed_out (view d) t) && not (in_quiet (view d) t))
+    (e : ends ≡ leb (size ((view d).block ++ b ∷ [])) (length (view d).block + 1)) where
+  pub fills-is : fills (view d) t b ≡ heard && ends
   unfolding fills
-  fills-shut h = rw (h, lt-leb (b % 16 + 3) 1 (omega arith), and-false)
+  fills-is = rw (h, e) (sym (and_assoc (not (timed_out (view d) t)) _ _))
 
-  pub fills-dropped : t < d.free → false ≡ fills (view d) t b
-  unfolding fills
-  fills-dropped h = rw (lt-ltb t d.free h, and-false)
+  pub grows-is : grows (view d) t b ≡ heard && not ends
+  unfolding grows
+  grows-is = rw (h, e, ltb-not (length (view d).block + 1) (size ((view d).block ++ b ∷ []))) (sym (and_assoc (not (timed_out (view d) t)) _ _))
 
-  pub fills-late : timed_out (view d) t ≡ true → false ≡ fills (view d) t b
-  unfolding fills
-  fills-late h = rw h
+-- what is heard finds no time-out and is not in quiet
+pub heard-parts : (d : Held) (t : ℕ) → true ≡ not (timed_out (view d) t) && not (in_quiet (view d) t)
+    → (timed_out (view d) t ≡ false) × (d.free ≤ t)
+heard-parts d t h =
+    let p = both_true (not (timed_out (view d) t)) _ (sym h) in
+    (not-true (timed_out (view d) t) p.0, ltb-false t d.free (not-true (in_quiet (view d) t) p.1))
 
-  pub fills-inside : (d.held ≡ 0 → ⊥) → d.free ≤ t → timed_out (view d) t ≡ false
-      → ltb (d.first % 16 + 1) d.held ≡ fills (view d) t b
-  unfolding fills
-  fills-inside n f l =
-      rw (le-ltb t d.free f, l, length-open d.held d.first d.tail, sized d.held d.first b d.tail n)
-      (go (dec_lt (d.first % 16 + 1) d.held))
-    where
-      x : ℕ
-      x = d.first % 16
-
-      go : Dec (x + 1 < d.held) → ltb (x + 1) d.held ≡ leb (x + 3) (min d.held 17 + 1)
-      go (yes h) = lt-ltb (x + 1) d.held h ∙ sym (le-leb (x + 3) (min d.held 17 + 1) (omega arith))
-      go (no h) = le-ltb (x + 1) d.held (omega arith) ∙ sym (lt-leb (x + 3) (min d.held 17 + 1) (omega arith))
-
-  -- what grows does not fill
-  pub grows-fills : grows (view d) t b ≡ true → fills (view d) t b ≡ false
-  unfolding grows fills
-  grows-fills g =
-      let p = both_true (not (timed_out (view d) t)) _ g in
-      let q = both_true (not (in_quiet (view d) t)) _ p.1 in
-      rw (p.0, q.0, lt-leb (size ((view d).block ++ b ∷ [])) (length (view d).block + 1) (ltb-true _ _ q.1))
+-- what grows does not fill
+pub grows-fills : (d : Held) (t b : ℕ) → grows (view d) t b ≡ true → fills (view d) t b ≡ false
+unfolding grows fills
+grows-fills d t b g =
+    let p = both_true (not (timed_out (view d) t)) _ g in
+    let q = both_true (not (in_quiet (view d) t)) _ p.1 in
+    rw (p.0, q.0, lt-leb (size ((view d).block ++ b ∷ [])) (length (view d).block + 1) (ltb-true _ _ q.1))
 
 -- ---- what a byte that fills the block has
 
@@ -73,28 +74,29 @@ module _ (d : Held) (t b : ℕ) (g : fills (view d) t b ≡ true) where
   pub fills-heard : d.free ≤ t
   fills-heard = ltb-false t d.free parts.1
 
-  pub fills-open : d.held ≡ 0 → ⊥
-  fills-open h = false≢true (fills-shut d t b h ∙ g)
-
   long : size ((view d).block ++ b ∷ []) ≤ length (view d).block + 1
   long = leb-true _ _ parts.2
+
+  pub fills-open : d.held ≡ 0 → ⊥
+  fills-open h = omega (arith, not-first d.held d.first b d.tail long)
 
   pub fills-answers : answers (view d) (byte t b 0) ≡ replied (view d) t (execute d.settings ((view d).block ++ b ∷ []))
   fills-answers =
       answers-clean (view d) t b fills-looked fills-heard
-      ∙ taken-full (view d) ((view d).block ++ b ∷ []) t (rw (length_more (view d).block b) (omega (arith, long)))
+      ∙ gets-full d t b long
 
 -- ---- the call
 
 -- where it is not so
-pub rests-only : (so : Bool) (d : Held) (e : Event) (entry : List ℕ) (r : Returned) (n : ℕ) → so ≡ false
-    → n ≡ number (length entry) d.clock e → (r.no ≡ n) × (r.deck ≡ d) × (r.first ≡ told []) × (r.second ≡ told [])
-    → OnlyIf so d e entry r entry
-rests-only so d e entry r n p f s =
-    record {
-      does = λ y. absurd (false≢true (sym p ∙ y));
-      rests = λ _. ((λ i. record { no = (s.0 ∙ f) i; deck = s.1 i; first = s.2 i; second = s.3 i }), refl);
-    }
+pub rests-only : (so : Bool) (d : Held) (e : Event) (entry : List ℕ) (n : ℕ) → so ≡ false
+    → n ≡ number (length entry) d.clock e → OnlyIf so d e entry (unanswered n d) entry
+rests-only so d e entry n p f =
+    record { does = λ y. absurd (false≢true (sym p ∙ y)); rests = λ _. (ap (λ (k : ℕ). unanswered k d) f, refl) }
+
+pub refused-only : (so : Bool) (d : Held) (e : Event) (entry : List ℕ) (r : Result Answered Refusal) (why : Refusal) → so ≡ false
+    → IsErrAnd r (λ x. x ≡ why) → number_of why ≡ number (length entry) d.clock e → OnlyIf so d e entry (returned d r) entry
+refused-only so d e entry (Ok r) why p x f = absurd x
+refused-only so d e entry (Err y) why p x f = rests-only so d e entry (number_of y) p (ap number_of x ∙ f)
 
 -- where it is
 pub does-only : (so : Bool) (d : Held) (e : Event) (entry : List ℕ) (r : Returned) (exit : List ℕ) → so ≡ true
@@ -115,17 +117,15 @@ module _ (room : ℕ) (d : Held) (t flags n : ℕ) (f : n ≡ refusal room d.clo
   unfolding striking
   striking-refused z = rw (← f, ne_eqb n 0 z)
 
-  pub striking-clean : flags ≡ 0 → striking room d t flags ≡ false
+  -- by the code's tests
+  pub striking-is : n ≡ 0 → (heard : Bool) → heard ≡ not (timed_out (view d) t) && not (in_quiet (view d) t)
+      → striking room d t flags ≡ not (eqb flags 0) && heard
   unfolding striking
-  striking-clean h = rw (eq-eqb flags 0 h, and-false)
+  striking-is z heard h = rw (← f, eq-eqb n 0 z, h)
 
   pub striking-dropped : t < d.free → striking room d t flags ≡ false
   unfolding striking
   striking-dropped h = rw (lt-ltb t d.free h, and-false, and-false, and-false)
-
-  pub striking-late : timed_out (view d) t ≡ true → striking room d t flags ≡ false
-  unfolding striking
-  striking-late h = rw (h, and-false, and-false)
 
   pub striking-heard : n ≡ 0 → (flags ≡ 0 → ⊥) → d.free ≤ t → timed_out (view d) t ≡ false → striking room d t flags ≡ true
   unfolding striking

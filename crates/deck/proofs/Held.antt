@@ -1,13 +1,12 @@
 -- The open block as the code keeps it, and a byte more in it.
 use Prim.Native.Nat.{ℕ, zero, suc, ◌+◌, ◌-◌, ◌%◌, ◌≤◌, ◌<◌, min}
 use mathlib.Core.Bool.{true, cond}
-use mathlib.Core.Logic.{◌⊎◌, ⊎_elim}
 use mathlib.Core.Path.{◌≡◌, refl, sym, ap, ◌∙◌}
 use mathlib.Core.List.{List, [], ◌∷◌, ◌++◌}
-use native.Mathlib.Decide.{dec_le}
+use native.Mathlib.Decide.{dec_le, dec_lt}
 use native.Mathlib.Omega.{arith}
-use borrow.Author.Tests.{ne_eqb}
-use lib.Dec.{eqb}
+use borrow.Author.Tests.{ne_eqb, lt-ltb, le-ltb, le-leb, lt-leb}
+use lib.Dec.{eqb, leb, ltb}
 use lib.ListN.{length}
 use Rattle.packed.specs.declared.Tail.{Tail}
 use Rattle.packed.specs.Tail.{recent, kept, latest}
@@ -60,30 +59,41 @@ one_more (suc n) first b t h k =
     let e : suc n + 1 ≡ suc (suc n) = omega arith in
     rw (e, ne_eqb (suc n) 0 (λ z. omega arith), latest-more n t b h (omega arith))
 
-length-behind : (n first b : ℕ) (t : Tail) → length (open_block n first t ++ b ∷ []) ≡ suc (min n 17)
-length-behind n first b t = length_more (open_block n first t) b ∙ ap suc (length-open n first t)
+-- with more bytes than the first asks for it fills the block
+pub ends-inside : (n first b : ℕ) (t : Tail) → (n ≡ 0 → ⊥)
+    → ltb (first % 16 + 1) n ≡ leb (size (open_block n first t ++ b ∷ [])) (length (open_block n first t) + 1)
+ends-inside n first b t h = rw (length-open n first t, sized n first b t h) (go (dec_lt (first % 16 + 1) n))
+  where
+    x : ℕ
+    x = first % 16
 
--- with fewer bytes than the first asks for, or none, it does not fill the block
-below-size : (n first b : ℕ) (t : Tail) → (n ≡ 0) ⊎ (n ≤ first % 16 + 1)
-    → length (open_block n first t ++ b ∷ []) < size (open_block n first t ++ b ∷ [])
-below-size zero first b t r = omega arith
-below-size (suc n) first b t r =
-    let s = sized (suc n) first b t (λ z. omega arith) in
-    ⊎_elim (λ z. absurd (omega arith)) (λ z. omega (arith, length-behind (suc n) first b t, s)) r
+    go : Dec (x + 1 < n) → ltb (x + 1) n ≡ leb (x + 3) (min n 17 + 1)
+    go (yes h) = lt-ltb (x + 1) n h ∙ sym (le-leb (x + 3) (min n 17 + 1) (omega arith))
+    go (no h) = le-ltb (x + 1) n (omega arith) ∙ sym (lt-leb (x + 3) (min n 17 + 1) (omega arith))
+
+pub size-most : (block : List ℕ) → size block ≤ 18
+size-most [] = omega arith
+size-most (b ∷ block) = omega arith
+
+-- a byte that fills the block comes behind another
+pub not-first : (n first b : ℕ) (t : Tail) → size (open_block n first t ++ b ∷ []) ≤ length (open_block n first t) + 1 → 1 ≤ n
+not-first zero first b t h = absurd (omega (arith, h))
+not-first (suc n) first b t h = omega arith
 
 module _ (d : Held) (t b : ℕ) where
+  pub few-open : length (view d).block + 1 < size ((view d).block ++ b ∷ []) → d.held ≤ 16
+  few-open h = omega (arith, h, size-most ((view d).block ++ b ∷ []), length-open d.held d.first d.tail)
+
   pub view-grown : b < 256 → d.held ≤ 16 → view (grown d t b) ≡ deck ((view d).block ++ b ∷ []) t d.free d.settings
   view-grown h k =
       ap (λ (o : List ℕ). deck o t d.free d.settings) (one_more d.held d.first b d.tail h k)
 
-  pub stays_open : b < 256 → (d.held ≡ 0) ⊎ (d.held ≤ d.first % 16 + 1)
+  pub stays_open : b < 256 → length (view d).block + 1 < size ((view d).block ++ b ∷ [])
       → taken (view d) ((view d).block ++ b ∷ []) t ≡ silently (view (grown d t b))
-  stays_open h r =
-      taken_more (view d) ((view d).block ++ b ∷ []) t (below-size d.held d.first b d.tail r)
-      ∙ ap silently (sym (view-grown h (⊎_elim (λ z. omega arith) (λ z. omega arith) r)))
+  stays_open k h =
+      taken_more (view d) ((view d).block ++ b ∷ []) t (rw (length_more (view d).block b) (omega (arith, h)))
+      ∙ ap silently (sym (view-grown k (few-open h)))
 
-  pub gets-full : (d.held ≡ 0 → ⊥) → d.first % 16 + 1 < d.held
+  pub gets-full : size ((view d).block ++ b ∷ []) ≤ length (view d).block + 1
       → taken (view d) ((view d).block ++ b ∷ []) t ≡ replied (view d) t (execute d.settings ((view d).block ++ b ∷ []))
-  gets-full n h =
-      let l = length-behind d.held d.first b d.tail in
-      taken-full (view d) ((view d).block ++ b ∷ []) t (omega (arith, l, sized d.held d.first b d.tail n))
+  gets-full h = taken-full (view d) ((view d).block ++ b ∷ []) t (rw (length_more (view d).block b) (omega (arith, h)))

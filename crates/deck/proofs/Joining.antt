@@ -1,59 +1,23 @@
 -- A clean byte that joins the open block: the code's tests, and that it does what `byte` does.
-use Prim.Native.Nat.{ℕ, ◌+◌, ◌%◌, ◌≤◌, ◌<◌, ◌^◌, min}
+use Prim.Native.Nat.{ℕ, ◌+◌, ◌≤◌, ◌<◌, ◌^◌}
 use mathlib.Core.Path.{◌≡◌, refl, sym, ap, ◌∙◌}
-use mathlib.Core.Bool.{Bool, true, false, cond, not, and-false}
-use mathlib.Core.List.{List, [], ◌∷◌, ◌++◌}
-use native.Mathlib.Decide.{dec_le}
+use mathlib.Core.Bool.{Bool, true, false, cond, not}
+use mathlib.Core.List.{[], ◌∷◌, ◌++◌}
 use native.Mathlib.Omega.{arith}
-use borrow.Author.Tests.{lt-ltb, le-ltb, le-leb, lt-leb, eq-eqb, ne_eqb, eqb-true, ltb-true, ltb-false, not-true}
-use lib.Dec.{eqb, leb, ltb}
+use borrow.Author.Tests.{eq-eqb, ne_eqb, eqb-true, ltb-true, ltb-false, not-true}
+use lib.Dec.{eqb, ltb}
 use lib.ListN.{length}
 use Rattle.deck.specs.declared.Deck.{Deck as Held}
-use Rattle.deck.specs.declared.Joined.{Joined}
 use Rattle.deck.specs.Line.{byte, silently, timed_out, looked, in_quiet, size, answers}
 use Rattle.deck.specs.Calls.{refusal, view, Made}
-use Rattle.deck.specs.Joins.{grows, joins, filling, grown, with_clock, joining}
-use Rattle.deck.proofs.Steps.{look-nothing, taken_more, answers-clean}
-use Rattle.deck.proofs.Cases.{length_more}
-use Rattle.deck.proofs.Held.{length-open, sized, view-grown}
+use Rattle.deck.specs.Joins.{grows, joins, filling, grown, with_clock, Tried, joining}
+use Rattle.deck.proofs.Steps.{look-nothing, answers-clean}
+use Rattle.deck.proofs.Held.{few-open, stays_open}
 use Rattle.deck.proofs.Made.{made_so, made_more}
 use Rattle.deck.proofs.Late.{both_true}
 use Rattle.deck.proofs.Numbers.{passed}
 
--- ---- the tests of the code
-
-module _ (d : Held) (t b : ℕ) where
-  pub grows-dropped : t < d.free → false ≡ grows (view d) t b
-  unfolding grows
-  grows-dropped h = rw (lt-ltb t d.free h, and-false)
-
-  pub grows-late : timed_out (view d) t ≡ true → false ≡ grows (view d) t b
-  unfolding grows
-  grows-late h = rw h
-
-  pub grows-first : d.free ≤ t → d.held ≡ 0 → true ≡ grows (view d) t b
-  unfolding grows
-  grows-first f h = rw (le-ltb t d.free f, h, lt-ltb 1 (b % 16 + 3) (omega arith))
-
-  pub grows-inside : d.free ≤ t → timed_out (view d) t ≡ false → (d.held ≡ 0 → ⊥)
-      → leb d.held (d.first % 16 + 1) ≡ grows (view d) t b
-  unfolding grows
-  grows-inside f l n =
-      rw (le-ltb t d.free f, l, length-open d.held d.first d.tail, sized d.held d.first b d.tail n)
-      (go (dec_le d.held (d.first % 16 + 1)))
-    where
-      x : ℕ
-      x = d.first % 16
-
-      go : Dec (d.held ≤ x + 1) → leb d.held (x + 1) ≡ ltb (min d.held 17 + 1) (x + 3)
-      go (yes h) = le-leb d.held (x + 1) h ∙ sym (lt-ltb (min d.held 17 + 1) (x + 3) (omega arith))
-      go (no h) = lt-leb d.held (x + 1) (omega arith) ∙ sym (le-ltb (min d.held 17 + 1) (x + 3) (omega arith))
-
 -- ---- what a byte that joins has
-
-size-most : (block : List ℕ) → size block ≤ 18
-size-most [] = omega arith
-size-most (b ∷ block) = omega arith
 
 module _ (d : Held) (t b : ℕ) (g : grows (view d) t b ≡ true) where
   parts : (timed_out (view d) t ≡ false) × (in_quiet (view d) t ≡ false)
@@ -74,14 +38,13 @@ module _ (d : Held) (t b : ℕ) (g : grows (view d) t b ≡ true) where
   short = ltb-true _ _ parts.2
 
   pub grows-few : d.held ≤ 16
-  grows-few = omega (arith, short, size-most ((view d).block ++ b ∷ []), length-open d.held d.first d.tail)
+  grows-few = few-open d t b short
 
   -- it does what `byte` does
   pub grows-answers : b < 256 → answers (view d) (byte t b 0) ≡ silently (view (grown d t b))
   grows-answers h =
       answers-clean (view d) t b grows-looked grows-heard
-      ∙ taken_more (view d) ((view d).block ++ b ∷ []) t (rw (length_more (view d).block b) (omega (arith, short)))
-      ∙ ap silently (sym (view-grown d t b h grows-few))
+      ∙ stays_open d t b h short
 
 -- ---- the call
 
@@ -113,10 +76,10 @@ module _ (d : Held) (t b : ℕ) where
 
   -- it says by `taken` whether it joins
   pub joining-taken : (joining d t b).taken ≡ joins d t b
-  joining-taken = ap (λ (j : Joined). j.taken) (joining-is _ (joins d t b) _ refl refl refl)
+  joining-taken = ap (λ (j : Tried). j.taken) (joining-is _ (joins d t b) _ refl refl refl)
 
   pub joining-fills : (joining d t b).fills ≡ filling 18 d t b
-  joining-fills = ap (λ (j : Joined). j.fills) (joining-is _ _ (filling 18 d t b) refl refl refl)
+  joining-fills = ap (λ (j : Tried). j.fills) (joining-is _ _ (filling 18 d t b) refl refl refl)
 
   module _ (j : joins d t b ≡ true) where
     pub joins-grows : grows (view d) t b ≡ true
@@ -128,7 +91,7 @@ module _ (d : Held) (t b : ℕ) where
     joins-range = allowed 18 d.clock t 0 0 (eqb-true _ _ (both_true (eqb (refusal 18 d.clock t 0 0) 0) _ j).0)
 
     pub joins-deck : (joining d t b).deck ≡ grown (with_clock t d) t b
-    joins-deck = ap (λ (k : Joined). k.deck) (joining-is _ true _ refl j refl)
+    joins-deck = ap (λ (k : Tried). k.deck) (joining-is _ true _ refl j refl)
 
     pub joins-answers : b < 256 → answers (view d) (byte t b 0) ≡ silently (view (joining d t b).deck)
     joins-answers h = rw joins-deck (grows-answers d t b joins-grows h)

@@ -2,43 +2,57 @@
 use Prim.Native.Nat.{ℕ, suc, ◌≤◌, ◌<◌, ◌^◌}
 use mathlib.Core.Bool.{Bool, true, false, cond}
 use mathlib.Core.Path.{◌≡◌, refl, sym, ap, ◌∙◌}
-use mathlib.Core.List.{List, []}
+use Rattle.std.proofs.Common.{Result, Ok, Err}
+use Rattle.std.specs.Result.{IsErrAnd}
+use mathlib.Core.List.{List}
 use native.Mathlib.Omega.{arith}
 use borrow.Author.Tests.{le-ltb, lt-leb, ne_eqb, ltb-false}
 use lib.Dec.{eqb}
 use lib.ListN.{length}
 use Rattle.timecode.specs.Time.{day}
-use Rattle.deck.specs.declared.Answer.{Answer as Returned}
+use Rattle.refusal.specs.declared.Refusal.{Refusal}
+use Rattle.refusal.specs.Numbers.{number_of}
+use Rattle.refusal.proofs.Numbers.{refuses as above-zero}
+use Rattle.deck.specs.declared.Answer.{Answer as Answered}
 use Rattle.deck.specs.declared.Deck.{Deck as Held}
 use Rattle.deck.specs.Line.{Event, Deck, time_of, answers}
-use Rattle.deck.specs.Calls.{Made, Answers, Call, flags_fit, refusal, number, told, view, seen, taken_call, refused_call, call}
-use Rattle.deck.proofs.Seen.{silent}
+use Rattle.deck.specs.Calls.{Answers, flags_fit, refusal, number, view, given, returned, taken_call, refused_call, call, Admitted, Comes}
+use Rattle.deck.specs.Joins.{with_clock}
+use Rattle.deck.proofs.Made.{made_so}
 
 pub passed : (n m : ℕ) (a : Bool) → cond a (suc n) m ≡ 0 → (a ≡ false) × (m ≡ 0)
 passed n m true e = (cc, cc)
 passed n m false e = (refl, e)
 
--- a call with the number `n`
-module _ (d : Held) (e : Event) (entry : List ℕ) (n : ℕ) (f : n ≡ number (length entry) d.clock e) where
-  -- one that is taken has a time in range, and room
-  pub in-range : n ≡ 0 → (time_of e < 2 ^ 48) × (18 ≤ length entry)
-  unfolding refusal
-  in-range z =
-      let p = passed 0 _ _ (sym f ∙ z) in
-      let q = passed 1 _ _ p.1 in
-      (omega (arith, ltb-false 281_474_976_710_655 (time_of e) q.0), ltb-false (length entry) 18 p.0)
-
-  pub takes : (r : Returned) (exit : List ℕ) → n ≡ 0
-      → seen r exit ≡ taken_call (time_of e) (answers (view d) e) entry → (Made d → Made r.deck) → Answers d e entry r exit
+module _ (d : Held) (e : Event) (entry : List ℕ) where
+  -- a call that is refused
+  pub refuses : (r : Result Answered Refusal) (why : Refusal) → IsErrAnd r (λ x. x ≡ why)
+      → number_of why ≡ number (length entry) d.clock e → Answers d e entry (returned d r) entry
   unfolding call
-  takes r exit z s m =
-      record { seen-is = rw (← f, z) s; same = λ o. absurd (o (ap (λ (k : Call). k.no) s)); made = m }
+  refuses (Ok r) why p f = absurd p
+  refuses (Err x) why p f =
+      let z : number_of x ≡ number (length entry) d.clock e = ap number_of p ∙ f in
+      record { seen-is = rw (← z, ne_eqb (number_of x) 0 (above-zero x)) refl; same = λ _. refl; made = λ m. m }
 
-  pub refuses : (r : Returned) → (n ≡ 0 → ⊥)
-      → (r.no ≡ n) × (r.deck ≡ d) × (r.first ≡ told []) × (r.second ≡ told []) → Answers d e entry r entry
-  unfolding call
-  refuses r z s =
-      record { seen-is = rw (← f, ne_eqb n 0 z) (silent n d r entry s); same = λ _. s.1; made = λ m. rw s.1 m }
+  -- one that is taken
+  module _ (z : 0 ≡ number (length entry) d.clock e) where
+    -- has a time in range, and room
+    pub admitted : Admitted (time_of e) entry
+    unfolding refusal
+    admitted =
+        let p = passed 0 _ _ (sym z) in
+        let q = passed 1 _ _ p.1 in
+        (omega (arith, ltb-false 281_474_976_710_655 (time_of e) q.0), ltb-false (length entry) 18 p.0)
+
+    pub takes : (r : Answered) (exit : List ℕ) → Comes (with_clock (time_of e) d) (answers (view d) e) entry r exit
+        → Answers d e entry (given r) exit
+    unfolding call
+    takes r exit c =
+        record {
+          seen-is = rw (← z) c.seen-is;
+          same = λ o. absurd (o refl);
+          made = λ m. c.made (made_so d (with_clock (time_of e) d) refl refl refl m);
+        }
 
 -- ---- for those who call
 

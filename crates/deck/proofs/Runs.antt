@@ -4,17 +4,15 @@ use Prim.Native.Nat.{ℕ, ◌≤◌}
 use mathlib.Core.Bool.{Bool, true, false}
 use mathlib.Core.List.{List, [], ◌∷◌, ◌++◌, append-nil}
 use mathlib.Core.Path.{◌≡◌, refl, sym, ap, ap₂, ◌∙◌, subst}
-use native.Mathlib.Omega.{arith}
-use borrow.Author.Tests.{eqb-true, eq-eqb, ne_eqb}
+use borrow.Author.Tests.{eqb-true, eq-eqb}
 use lib.Dec.{eqb}
 use lib.ListN.{length, drop}
 use lib.Seq.{take-append_seam}
-use Rattle.deck.specs.declared.Answer.{Answer as Returned}
 use Rattle.deck.specs.declared.Deck.{Deck as Held}
 use Rattle.deck.specs.Line.{Event, look, time_of, Deck, Reply, after, says, answers, run, said}
 use Rattle.deck.specs.Events.{Gives, Alike, ended, same, dropped, unheard, Ordered, without_looks, Few}
 use Rattle.deck.specs.Events.{none as no-reply, one as one-reply, late as late-reply, two as two-replies}
-use Rattle.deck.specs.Calls.{Call, number, view, Made, seen, taken_call, reply_bytes, told, Answers}
+use Rattle.deck.specs.Calls.{Call, Returned, number, view, Made, seen, taken_call, reply_bytes, told, len_of, Answers}
 use Rattle.deck.specs.Runs.{Obtained, known, obtained_at, obtained, Called, none, more}
 use Rattle.deck.proofs.Joining.{allowed}
 use Rattle.deck.proofs.Looks.{looks-alike}
@@ -32,11 +30,11 @@ known-append (r ∷ rs) qs = ap (λ (l : List Obtained). record { bytes = r.byte
 -- a reply that has bytes is found at the front of the output
 found : (r : Reply) (rest : List ℕ) → 3 ≤ length r.bytes
     → obtained_at (told (r ∷ [])) (r.bytes ++ rest) ≡ known (r ∷ [])
-found r rest h = rw (ne_eqb (length r.bytes) 0 (λ p. omega arith), take-append_seam r.bytes rest)
+found r rest h = rw (take-append_seam r.bytes rest)
 
 -- all of them, from what the call returns and the output
 handed_out : (d : Deck) (e : Event) (rs : List Reply) (rest : List ℕ) → Few d e rs
-    → obtained_at (told rs) (reply_bytes rs ++ rest) ++ obtained_at (told (drop 1 rs)) (drop (told rs).len (reply_bytes rs ++ rest))
+    → obtained_at (told rs) (reply_bytes rs ++ rest) ++ obtained_at (told (drop 1 rs)) (drop (len_of (told rs)) (reply_bytes rs ++ rest))
     ≡ known rs
 handed_out d e rs rest no-reply = refl
 handed_out d e rs rest (one-reply r p h k) = rw (append-nil r.bytes) (ap (λ (l : List Obtained). l ++ []) (found r rest h))
@@ -59,7 +57,7 @@ module _ {d : Held} {e : Event} {entry exit : List ℕ} {r : Returned} (a : Answ
   -- what it hands out is what the deck says
   obtains : obtained r exit ≡ known (says (view d) e)
   obtains =
-      ap (λ (k : Call). obtained_at k.first k.out ++ obtained_at k.second (drop k.first.len k.out)) taken_is
+      ap (λ (k : Call). obtained_at k.first k.out ++ obtained_at k.second (drop (len_of k.first) k.out)) taken_is
       ∙ handed_out (view d) e (says (view d) e) _ (few-replies (view d) e)
 
 -- ---- runs

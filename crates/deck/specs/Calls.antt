@@ -1,12 +1,15 @@
 -- Document 01, "Numbers that calls return": the deck's calls, for any deck, event and output.
-use Rattle.std.specs.Prelude.{Bool, cond, not, ◌&&◌, List, [], ◌∷◌, ◌++◌, ◌≡◌, ℕ, zero, suc, ◌%◌, ◌≤◌, eqb, leb, ltb, length, get_or, drop}
+use Rattle.std.specs.Prelude.{Bool, cond, not, ◌&&◌, List, [], ◌∷◌, ◌++◌, ◌≡◌, ℕ, zero, suc, ◌%◌, ◌≤◌, ◌<◌, ◌^◌, eqb, leb, ltb, length, get_or, drop}
+use Rattle.std.specs.Prelude.{Option, Some, None, Result, Ok, Err}
+use Rattle.refusal.specs.declared.Refusal.{Refusal}
+use Rattle.refusal.specs.Numbers.{number_of}
 use Rattle.packed.specs.declared.Tail.{Tail}
 use Rattle.packed.specs.Tail.{kept, backward, latest}
 use Rattle.settings.specs.Settings.{power_on}
 use Rattle.timecode.specs.Time.{day}
 use Rattle.deck.specs.declared.Deck.{Deck as Held}
 use Rattle.deck.specs.declared.Sent.{Sent}
-use Rattle.deck.specs.declared.Answer.{Answer as Returned}
+use Rattle.deck.specs.declared.Answer.{Answer as Answered}
 use Rattle.deck.specs.Line.{Event, byte, look, position, cassette, time_of, Deck, deck, Reply, Answer, answers}
 
 -- the flags of a byte and the place of a position; 0 for the other events
@@ -41,10 +44,15 @@ number room clock e = refusal room clock (time_of e) (flags_of e) (place_of e)
 
 -- ---- what a caller sees
 
--- the length and due time of the first of these replies; zeros where there is none
-abbrev pub told : List Reply → Sent
-told [] = record { len = 0; due = 0 }
-told (r ∷ rs) = record { len = length r.bytes; due = r.due }
+-- the length and due time of the first of these replies, if there is one
+abbrev pub told : List Reply → Option Sent
+told [] = None
+told (r ∷ rs) = Some (record { len = length r.bytes; due = r.due })
+
+-- how many bytes of the output it takes
+abbrev pub len_of : Option Sent → ℕ
+len_of None = 0
+len_of (Some s) = s.len
 
 abbrev pub reply_bytes : List Reply → List ℕ
 reply_bytes [] = []
@@ -55,8 +63,8 @@ pub record Call : Type 0 where
   pub no : ℕ
   pub clock : ℕ
   pub deck : Deck
-  pub first : Sent
-  pub second : Sent
+  pub first : Option Sent
+  pub second : Option Sent
   pub out : List ℕ
 
 -- "Reply bytes stand at the front of the lent output, the rest of it untouched"
@@ -103,6 +111,21 @@ pub record Made (d : Held) : Type 0 where
   pub head : d.first ≡ get_or (view d).block 0 0
   pub rest : d.tail ≡ kept (backward (drop 1 (view d).block))
 
+-- an answer, with the number of the call
+pub record Returned : Type 0 where
+  pub no : ℕ
+  pub deck : Held
+  pub first : Option Sent
+  pub second : Option Sent
+
+-- 0 where the call is taken; a refused call has its number, no reply, and the deck is the caller's own
+abbrev pub given : Answered → Returned
+given a = record { no = 0; deck = a.deck; first = a.first; second = a.second }
+
+abbrev pub returned : Held → Result Answered Refusal → Returned
+returned d (Ok a) = given a
+returned d (Err e) = record { no = number_of e; deck = d; first = told []; second = told [] }
+
 -- what a caller sees of an answer and the output
 abbrev pub seen : Returned → List ℕ → Call
 seen r out =
@@ -120,4 +143,15 @@ seen r out =
 pub record Answers (d : Held) (e : Event) (entry : List ℕ) (r : Returned) (exit : List ℕ) : Type 0 where
   pub seen-is : seen r exit ≡ call d.clock (view d) e entry
   pub same : (r.no ≡ 0 → ⊥) → r.deck ≡ d
+  pub made : Made d → Made r.deck
+
+-- ---- for private functions
+
+-- a call that no test has refused: its time is in range, and the output has room for all replies
+abbrev pub Admitted : ℕ → List ℕ → Type 0
+Admitted time out = (time < 2 ^ 48) × (18 ≤ length out)
+
+-- at the deck's clock the code's answer and the output are what the deck of the definitions comes to
+pub record Comes (d : Held) (a : Answer) (entry : List ℕ) (r : Answered) (exit : List ℕ) : Type 0 where
+  pub seen-is : seen (given r) exit ≡ taken_call d.clock a entry
   pub made : Made d → Made r.deck

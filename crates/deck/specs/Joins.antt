@@ -1,11 +1,14 @@
 -- Bytes by what they do: a clean one that goes into the open block and does nothing else, one that fills it, a flagged one.
 use Rattle.std.specs.Prelude.{Bool, true, false, cond, not, ◌&&◌, List, [], ◌∷◌, ◌++◌, ◌≡◌, ℕ, ◌+◌, eqb, leb, ltb, length}
+use Rattle.std.specs.Prelude.{Result, Ok, Err}
+use Rattle.refusal.specs.declared.Refusal.{Refusal}
+use Rattle.refusal.specs.Numbers.{number_of}
 use Rattle.packed.specs.Tail.{recent, kept}
 use Rattle.deck.specs.declared.Deck.{Deck as Held}
 use Rattle.deck.specs.declared.Joined.{Joined}
-use Rattle.deck.specs.declared.Answer.{Answer as Returned}
+use Rattle.deck.specs.declared.Joined.TheVariants.{Taken, Fills, Other}
 use Rattle.deck.specs.Line.{Event, Deck, timed_out, in_quiet, size}
-use Rattle.deck.specs.Calls.{refusal, number, told, view, Answers}
+use Rattle.deck.specs.Calls.{refusal, number, told, view, Returned, Answers}
 
 -- a clean byte finds no time-out, is not in quiet and does not fill the block
 unfoldable pub grows : Deck → ℕ → ℕ → Bool
@@ -55,9 +58,23 @@ with_clock t d =
       settings = d.settings;
     }
 
+-- what `join` did: the number of the call, whether the byte was taken, whether it is one for `fill`, and the deck
+pub record Tried : Type 0 where
+  pub no : ℕ
+  pub taken : Bool
+  pub fills : Bool
+  pub deck : Held
+
+-- 0 where the call is taken; a deck that takes nothing is the caller's own
+abbrev pub tried : Held → Result Joined Refusal → Tried
+tried d (Ok (Taken e)) = record { no = 0; taken = true; fills = false; deck = e }
+tried d (Ok Fills) = record { no = 0; taken = false; fills = true; deck = d }
+tried d (Ok Other) = record { no = 0; taken = false; fills = false; deck = d }
+tried d (Err e) = record { no = number_of e; taken = false; fills = false; deck = d }
+
 -- the contract of `join`: the number of the call, whether the byte is taken, and whether it fills the block; a deck that takes
 -- nothing is as it was
-unfoldable pub joining : Held → ℕ → ℕ → Joined
+unfoldable pub joining : Held → ℕ → ℕ → Tried
 joining d t b =
     record {
       no = refusal 18 d.clock t 0 0;

@@ -1,10 +1,9 @@
 -- Document 01, "Times, time-out, quiet": runs of the code's own calls, of which the laws of quiet and of looks speak.
-use Rattle.std.specs.Prelude.{cond, List, [], ◌∷◌, ◌++◌, ◌≡◌, ℕ, eqb, take, drop}
+use Rattle.std.specs.Prelude.{List, [], ◌∷◌, ◌++◌, ◌≡◌, ℕ, take, drop, Option, Some, None}
 use Rattle.deck.specs.declared.Deck.{Deck as Held}
 use Rattle.deck.specs.declared.Sent.{Sent}
-use Rattle.deck.specs.declared.Answer.{Answer as Returned}
 use Rattle.deck.specs.Line.{Event, Reply}
-use Rattle.deck.specs.Calls.{Answers}
+use Rattle.deck.specs.Calls.{len_of, Returned, Answers}
 
 -- a reply as a caller has it: its bytes and its due time
 pub record Obtained : Type 0 where
@@ -16,13 +15,14 @@ abbrev pub known : List Reply → List Obtained
 known [] = []
 known (r ∷ rs) = record { bytes = r.bytes; due = r.due } ∷ known rs
 
--- from the front of the output; of length 0 there is none
-abbrev pub obtained_at : Sent → List ℕ → List Obtained
-obtained_at s out = cond (eqb s.len 0) [] (record { bytes = take s.len out; due = s.due } ∷ [])
+-- from the front of the output, if there is one
+abbrev pub obtained_at : Option Sent → List ℕ → List Obtained
+obtained_at None out = []
+obtained_at (Some s) out = record { bytes = take s.len out; due = s.due } ∷ []
 
 -- "Reply bytes stand at the front of the lent output", those of the second behind the first
 abbrev pub obtained : Returned → List ℕ → List Obtained
-obtained r out = obtained_at r.first out ++ obtained_at r.second (drop r.first.len out)
+obtained r out = obtained_at r.first out ++ obtained_at r.second (drop (len_of r.first) out)
 
 -- calls one after the other, "no call refused": from a deck, with these events, whatever was lent, to these replies and the deck
 -- that the last call hands back

@@ -1,16 +1,17 @@
 // The deck: the four events, with time-out and quiet.
 #![tactic(auto)]
 
-ghost use Rattle.std.specs.Prelude.{◌≡◌, false, ℕ, length};
+ghost use Rattle.std.specs.Prelude.{◌≡◌, ℕ, length};
 ghost use Rattle.deck.specs.Line.{byte, look, position, cassette};
-ghost use Rattle.deck.specs.Calls.{Answers, view, new_deck};
-ghost use Rattle.deck.specs.Joins.{grows, fills, joining, OnlyIf, filling, striking};
+ghost use Rattle.deck.specs.Calls.{Answers, new_deck, returned};
+ghost use Rattle.deck.specs.Joins.{joining, tried, OnlyIf, filling, striking};
 
 use packed::Tail;
+use refusal::Refusal;
 use settings::Settings;
 
+mod limits;
 mod line;
-mod number;
 
 // The latest time that a call takes.
 pub const LAST_TIME: u64 = 281474976710655;
@@ -27,29 +28,27 @@ pub struct Deck {
     pub settings: Settings,
 }
 
-// A reply in the output: its length, 0 where there is none, and its due time.
+// A reply in the output: its length and its due time.
 #[derive(Clone, Copy)]
 pub struct Sent {
     pub len: usize,
     pub due: u64,
 }
 
-// The number, the deck, and the replies that stand at the front of the output, one after the other.
+// The deck, and the replies that stand at the front of the output, one after the other. Where there is one, it is the first.
 #[derive(Clone, Copy)]
 pub struct Answer {
-    pub no: u8,
     pub deck: Deck,
-    pub first: Sent,
-    pub second: Sent,
+    pub first: Option<Sent>,
+    pub second: Option<Sent>,
 }
 
-// What `join` did: the number, whether the byte was taken, whether it is one for `fill`, and the deck.
+// What comes of a byte that is to join the open block: the deck with it, or the deck as it was, whose block it fills or not.
 #[derive(Clone, Copy)]
-pub struct Joined {
-    pub no: u8,
-    pub taken: bool,
-    pub fills: bool,
-    pub deck: Deck,
+pub enum Joined {
+    Taken(Deck),
+    Fills,
+    Other,
 }
 
 impl Deck {
@@ -67,160 +66,89 @@ impl Deck {
         }
     }
 
-    pub fn byte(mut self, time: u64, content: u8, flags: u8, out: &mut [u8]) -> Answer
-        ensures { Answers self (byte time content flags) out.old result out.new }
+    pub fn byte(
+        mut self,
+        time: u64,
+        content: u8,
+        flags: u8,
+        out: &mut [u8],
+    ) -> Result<Answer, Refusal>
+        ensures { Answers self (byte time content flags) out.old (returned self result) out.new }
     {
-        let no = number::refusal(out.len(), self.clock, time, flags, 0);
-        if no != 0 {
-            return self.refused(no);
-        }
+        self.check(out.len(), time, flags, 0)?;
         self.clock = time;
         if self.timed_out(time) {
-            return self.late(time, content, flags, out);
+            return Ok(self.late(time, content, flags, out));
         }
-        self.heard(time, content, flags, out)
-    }
-
-    // A clean byte at this time, whatever its content, is heard, finds no time-out and does not fill the block.
-    fn grows(self, time: u64) -> bool
-        ensures { (content : ℕ) → result ≡ grows (view self) time content }
-    {
-        if time < self.free {
-            return false;
-        }
-        if self.held == 0 {
-            return true;
-        }
-        if self.timed_out(time) {
-            return false;
-        }
-        self.held <= (self.first % 16) as usize + 1
-    }
-
-    // A clean byte at this time, whatever its content, is heard, finds no time-out and fills the block.
-    fn fills(self, time: u64) -> bool
-        ensures { (content : ℕ) → result ≡ fills (view self) time content }
-    {
-        if self.held == 0 {
-            return false;
-        }
-        if time < self.free {
-            return false;
-        }
-        if self.timed_out(time) {
-            return false;
-        }
-        (self.first % 16) as usize + 1 < self.held
-    }
-
-    // A byte that does not join.
-    fn unjoined(self, no: u8, fills: bool) -> Joined
-        ensures { result ≡ record { no = no; taken = false; fills = fills; deck = self } }
-    {
-        Joined {
-            no: no,
-            taken: false,
-            fills: fills,
-            deck: self,
-        }
+        Ok(self.heard(time, content, flags, out))
     }
 
     // A clean byte that goes into the open block and does nothing else: it is heard, finds no time-out and does not fill the block.
-    // Any other is not taken, and the deck is then as it was; the number says whether the call itself was refused.
-    pub fn join(mut self, time: u64, content: u8) -> Joined
-        ensures { result ≡ joining self time content }
+    pub fn join(mut self, time: u64, content: u8) -> Result<Joined, Refusal>
+        ensures { tried self result ≡ joining self time content }
     {
-        let no = number::refusal(18, self.clock, time, 0, 0);
-        if no != 0 {
-            return self.unjoined(no, false);
+        self.check(18, time, 0, 0)?;
+        if !self.hears(time) {
+            return Ok(Joined::Other);
         }
-        if !self.grows(time) {
-            return self.unjoined(0, self.fills(time));
+        if self.ends() {
+            return Ok(Joined::Fills);
         }
         self.clock = time;
-        Joined {
-            no: 0,
-            taken: true,
-            fills: false,
-            deck: self.grown(time, content),
-        }
+        Ok(Joined::Taken(self.grown(time, content)))
     }
 
     // A clean byte that is heard, finds no time-out and fills the block: what `byte` does. Any other changes nothing.
-    pub fn fill(mut self, time: u64, content: u8, out: &mut [u8]) -> Answer
+    pub fn fill(mut self, time: u64, content: u8, out: &mut [u8]) -> Result<Answer, Refusal>
         ensures { OnlyIf (filling (length out.old) self time content)
-            self (byte time content 0) out.old result out.new }
+            self (byte time content 0) out.old (returned self result) out.new }
     {
-        let no = number::refusal(out.len(), self.clock, time, 0, 0);
-        if no != 0 {
-            return self.refused(no);
-        }
-        if !self.fills(time) {
-            return self.refused(0);
+        self.check(out.len(), time, 0, 0)?;
+        if !self.hears(time) || !self.ends() {
+            return Ok(self.silent());
         }
         self.clock = time;
-        self.full(time, content, out)
+        Ok(self.full(time, content, out))
     }
 
     // A flagged byte, whatever its content, that is heard and finds no time-out: what `byte` does. Any other changes nothing.
-    pub fn strike(mut self, time: u64, flags: u8, out: &mut [u8]) -> Answer
+    pub fn strike(mut self, time: u64, flags: u8, out: &mut [u8]) -> Result<Answer, Refusal>
         ensures { (content : ℕ) → OnlyIf (striking (length out.old) self time flags)
-            self (byte time content flags) out.old result out.new }
+            self (byte time content flags) out.old (returned self result) out.new }
     {
-        let no = number::refusal(out.len(), self.clock, time, flags, 0);
-        if no != 0 {
-            return self.refused(no);
-        }
-        if flags == 0 {
-            return self.refused(0);
-        }
-        if time < self.free {
-            return self.refused(0);
-        }
-        if self.timed_out(time) {
-            return self.refused(0);
+        self.check(out.len(), time, flags, 0)?;
+        if flags == 0 || !self.hears(time) {
+            return Ok(self.silent());
         }
         self.clock = time;
-        self.nak(flags, time, out)
+        Ok(self.nak(flags, time, out))
     }
 
-    pub fn look(mut self, time: u64, out: &mut [u8]) -> Answer
-        ensures { Answers self (look time) out.old result out.new }
+    pub fn look(mut self, time: u64, out: &mut [u8]) -> Result<Answer, Refusal>
+        ensures { Answers self (look time) out.old (returned self result) out.new }
     {
-        let no = number::refusal(out.len(), self.clock, time, 0, 0);
-        if no != 0 {
-            return self.refused(no);
-        }
+        self.check(out.len(), time, 0, 0)?;
         self.clock = time;
-        self.looked(time, out)
+        Ok(self.looked(time, out))
     }
 
-    pub fn position(mut self, time: u64, place: u32, out: &mut [u8]) -> Answer
-        ensures { Answers self (position time place) out.old result out.new }
+    pub fn position(mut self, time: u64, place: u32, out: &mut [u8]) -> Result<Answer, Refusal>
+        ensures { Answers self (position time place) out.old (returned self result) out.new }
     {
-        let no = number::refusal(out.len(), self.clock, time, 0, place);
-        if no != 0 {
-            return self.refused(no);
-        }
+        self.check(out.len(), time, 0, place)?;
         self.clock = time;
-        let answer = self.looked(time, out);
-        let deck = answer.deck;
-        let mut settings = deck.settings;
-        settings.position = place;
-        line::with_settings(answer, settings)
+        let mut answer = self.looked(time, out);
+        answer.deck.settings.position = place;
+        Ok(answer)
     }
 
-    pub fn cassette(mut self, time: u64, out: &mut [u8]) -> Answer
-        ensures { Answers self (cassette time) out.old result out.new }
+    pub fn cassette(mut self, time: u64, out: &mut [u8]) -> Result<Answer, Refusal>
+        ensures { Answers self (cassette time) out.old (returned self result) out.new }
     {
-        let no = number::refusal(out.len(), self.clock, time, 0, 0);
-        if no != 0 {
-            return self.refused(no);
-        }
+        self.check(out.len(), time, 0, 0)?;
         self.clock = time;
-        let answer = self.looked(time, out);
-        let deck = answer.deck;
-        let settings = deck.settings;
-        line::with_settings(answer, settings.load())
+        let mut answer = self.looked(time, out);
+        answer.deck.settings = answer.deck.settings.load();
+        Ok(answer)
     }
 }

@@ -1,44 +1,45 @@
 // The line: time-out, quiet and the open block. Every function here comes after the tests of a call.
-ghost use Rattle.std.specs.Prelude.{◌≡◌, true, [], ◌∷◌, ◌++◌, ◌≤◌, ◌<◌, ◌^◌, length};
+ghost use Rattle.std.specs.Prelude.{◌≡◌, ℕ, true, not, ◌&&◌, [], ◌∷◌, ◌++◌, ◌+◌, ◌≤◌, ◌<◌, ◌^◌, leb, length};
+ghost use Rattle.std.specs.Prelude.{None};
 ghost use Rattle.execute.specs.Execute.{execute};
-ghost use Rattle.deck.specs.Line.{byte, deck, timed_out, voided, looked, replied, taken, received, answers, with_settings};
-ghost use Rattle.deck.specs.Calls.{view, Made, seen, told, taken_call};
+ghost use Rattle.deck.specs.Line.{byte, deck, timed_out, in_quiet, size, voided, looked, replied, taken, received, answers};
+ghost use Rattle.deck.specs.Calls.{view, Made, Admitted, Comes};
 ghost use Rattle.deck.specs.Joins.{grown};
 
 use super::{Answer, Deck, Sent};
 use packed::Tail;
-use settings::Settings;
 
 const TIME_OUT: u8 = 0x80;
 
 impl Deck {
-    pub(super) fn refused(self, no: u8) -> Answer
-        ensures { (result.no ≡ no) × (result.deck ≡ self) × (result.first ≡ told []) × (result.second ≡ told []) }
-    {
-        self.said(no, 0, 0)
-    }
-
-    fn said(self, no: u8, len: usize, due: u64) -> Answer
-        ensures { (result.no ≡ no) × (result.deck ≡ self) × (result.first ≡ record { len = len; due = due }) × (result.second ≡ told []) }
+    pub(super) fn silent(self) -> Answer
+        ensures { result ≡ record { deck = self; first = None; second = None } }
     {
         Answer {
-            no: no,
             deck: self,
-            first: Sent { len: len, due: due },
-            second: Sent { len: 0, due: 0 },
+            first: None,
+            second: None,
         }
     }
 
     pub(super) fn timed_out(self, time: u64) -> bool
         ensures { result ≡ timed_out (view self) time }
     {
-        if self.held == 0 {
-            return false;
-        }
-        if time <= self.last {
-            return false;
-        }
-        10000 < time - self.last
+        self.held != 0 && self.last < time && 10000 < time - self.last
+    }
+
+    // A byte at this time finds no time-out and is not in quiet.
+    pub(super) fn hears(self, time: u64) -> bool
+        ensures { result ≡ not (timed_out (view self) time) && not (in_quiet (view self) time) }
+    {
+        self.free <= time && !self.timed_out(time)
+    }
+
+    // A clean byte, whatever its content, fills the block.
+    pub(super) fn ends(self) -> bool
+        ensures { (content : ℕ) → result ≡ leb (size ((view self).block ++ content ∷ [])) (length (view self).block + 1) }
+    {
+        self.held != 0 && (self.first % 16) as usize + 1 < self.held
     }
 
     // No block is open, and a quiet begins if the NAK opens one.
@@ -57,30 +58,32 @@ impl Deck {
 
     pub(super) fn nak(self, why: u8, due: u64, out: &mut [u8]) -> Answer
         requires { (due < 2 ^ 63) × (18 ≤ length out.old) }
-        ensures { (seen result out.new ≡ taken_call self.clock (voided (view self) why due) out.old)
-            × Made result.deck }
+        ensures { Comes self (voided (view self) why due) out.old result out.new }
     {
-        let written = execute::nak(why, out);
-        self.void(why, due).said(0, written.len, due)
+        let len = execute::nak(why, out).len;
+        Answer {
+            deck: self.void(why, due),
+            first: Some(Sent { len, due }),
+            second: None,
+        }
     }
 
     // Time-out comes first.
     pub(super) fn looked(self, time: u64, out: &mut [u8]) -> Answer
-        requires { (time < 2 ^ 48) × (18 ≤ length out.old) }
-        ensures { (seen result out.new ≡ taken_call self.clock (looked (view self) time) out.old)
-            × (Made self → Made result.deck) }
+        requires { Admitted time out.old }
+        ensures { Comes self (looked (view self) time) out.old result out.new }
     {
         if self.timed_out(time) {
             return self.nak(TIME_OUT, self.last + 10001, out);
         }
-        self.said(0, 0, 0)
+        self.silent()
     }
 
     // The first byte of a block.
     fn begin(mut self, time: u64, content: u8) -> Deck
         ensures { (view result ≡ deck (content ∷ []) time self.free self.settings) × (result.clock ≡ self.clock) × Made result }
     {
-        self.first = content as u64;
+        self.first = u64::from(content);
         self.tail = Tail::none();
         self.held = 1;
         self.last = time;
@@ -95,8 +98,7 @@ impl Deck {
         if self.held == 0 {
             return self.begin(time, content);
         }
-        let tail = self.tail;
-        self.tail = tail.push(content);
+        self.tail = self.tail.push(content);
         self.held += 1;
         self.last = time;
         self
@@ -104,50 +106,48 @@ impl Deck {
 
     // The byte that fills the block.
     pub(super) fn full(mut self, time: u64, content: u8, out: &mut [u8]) -> Answer
-        requires { (1 ≤ self.held) × (time < 2 ^ 48) × (18 ≤ length out.old) }
-        ensures { (seen result out.new ≡ taken_call self.clock
-            (replied (view self) time (execute self.settings ((view self).block ++ content ∷ []))) out.old)
-            × Made result.deck }
+        requires { (1 ≤ self.held) × Admitted time out.old }
+        ensures { Comes self (replied (view self) time (execute self.settings ((view self).block ++ content ∷ [])))
+            out.old result out.new }
     {
-        let settings = self.settings;
         let first = (self.first % 256) as u8;
-        let tail = self.tail;
-        let done = execute::execute(settings, first, tail, self.held - 1, content, out);
-        let after = done.settings;
+        let done = execute::execute(self.settings, first, self.tail, self.held - 1, content, out);
         self.held = 0;
         self.first = 0;
         self.tail = Tail::none();
         self.last = time;
-        self.settings = after;
+        self.settings = done.settings;
         if done.quiets {
             self.free = time + 10001;
         }
-        self.said(0, done.len, time)
+        Answer {
+            deck: self,
+            first: Some(Sent {
+                len: done.len,
+                due: time,
+            }),
+            second: None,
+        }
     }
 
     // A clean byte outside quiet.
-    fn clean(mut self, time: u64, content: u8, out: &mut [u8]) -> Answer
-        requires { (time < 2 ^ 48) × (18 ≤ length out.old) }
-        ensures { (seen result out.new
-            ≡ taken_call self.clock (taken (view self) ((view self).block ++ content ∷ []) time) out.old)
-            × (Made self → Made result.deck) }
+    fn clean(self, time: u64, content: u8, out: &mut [u8]) -> Answer
+        requires { Admitted time out.old }
+        ensures { Comes self (taken (view self) ((view self).block ++ content ∷ []) time) out.old result out.new }
     {
-        // The test stands here, and not in a function of its own: that would cost the deck a fifth of its speed.
-        if self.held == 0 || self.held <= (self.first % 16) as usize + 1 {
-            return self.grown(time, content).said(0, 0, 0);
+        if self.ends() {
+            return self.full(time, content, out);
         }
-        self.full(time, content, out)
+        self.grown(time, content).silent()
     }
 
     // A byte, where no time-out is due.
     pub(super) fn heard(self, time: u64, content: u8, flags: u8, out: &mut [u8]) -> Answer
-        requires { (time < 2 ^ 48) × (18 ≤ length out.old) }
-        ensures { (seen result out.new
-            ≡ taken_call self.clock (received (view self) time content flags) out.old)
-            × (Made self → Made result.deck) }
+        requires { Admitted time out.old }
+        ensures { Comes self (received (view self) time content flags) out.old result out.new }
     {
         if time < self.free {
-            return self.said(0, 0, 0);
+            return self.silent();
         }
         if flags != 0 {
             return self.nak(flags, time, out);
@@ -157,52 +157,25 @@ impl Deck {
 
     // A byte that finds the time-out: it is in the quiet of the NAK, or gets a NAK of its own, or begins a block.
     pub(super) fn late(self, time: u64, content: u8, flags: u8, out: &mut [u8]) -> Answer
-        requires { (timed_out (view self) time ≡ true) × (time < 2 ^ 48) × (18 ≤ length out.old) }
-        ensures { (seen result out.new
-            ≡ taken_call self.clock (answers (view self) (byte time content flags)) out.old)
-            × Made result.deck }
+        requires { (timed_out (view self) time ≡ true) × Admitted time out.old }
+        ensures { Comes self (answers (view self) (byte time content flags)) out.old result out.new }
     {
         let answer = self.nak(TIME_OUT, self.last + 10001, out);
         let deck = answer.deck;
         if time < deck.free {
             return answer;
         }
-        let first = answer.first;
         if flags != 0 {
-            let written = execute::nak(flags, &mut out[4..]);
+            let len = execute::nak(flags, &mut out[4..]).len;
             return Answer {
-                no: 0,
                 deck: deck.void(flags, time),
-                first: first,
-                second: Sent {
-                    len: written.len,
-                    due: time,
-                },
+                second: Some(Sent { len, due: time }),
+                ..answer
             };
         }
         Answer {
-            no: 0,
             deck: deck.begin(time, content),
-            first: first,
-            second: Sent { len: 0, due: 0 },
+            ..answer
         }
-    }
-}
-
-// The answer, with other settings in its deck.
-pub(super) fn with_settings(answer: Answer, settings: Settings) -> Answer
-    ensures { (result.no ≡ answer.no) × (result.first ≡ answer.first) × (result.second ≡ answer.second)
-        × (result.deck.clock ≡ answer.deck.clock) × (view result.deck ≡ with_settings (view answer.deck) settings)
-        × (Made answer.deck → Made result.deck) }
-{
-    let mut deck = answer.deck;
-    deck.settings = settings;
-    let first = answer.first;
-    let second = answer.second;
-    Answer {
-        no: answer.no,
-        deck: deck,
-        first: first,
-        second: second,
     }
 }

@@ -1,21 +1,26 @@
 -- Entries as bytes: reading and writing undo each other, and the places of a record's bytes walk its list of entries.
-use Prim.Native.Nat.{ℕ, zero, suc, ◌+◌, ◌*◌, ◌-◌, ◌/◌, ◌%◌, ◌^◌, ◌≤◌, ◌<◌}
-use mathlib.Core.Path.{◌≡◌, refl, sym, ap, ◌∙◌}
+use Prim.Native.Nat.{ℕ, zero, suc, ◌+◌, ◌*◌, ◌/◌, ◌%◌, ◌^◌, ◌≤◌, ◌<◌}
+use mathlib.Core.Path.{◌≡◌, refl, sym, ap, ap₂, ◌∙◌}
 use mathlib.Core.Bool.{true}
-use mathlib.Core.List.{List, [], ◌∷◌, ◌++◌, append-nil, append_assoc}
+use mathlib.Core.List.{List, [], ◌∷◌, ◌++◌}
 use native.Mathlib.Numerals.{add-one}
+use native.Mathlib.Nat.{pow-suc, div-div-eq-div-mul}
 use native.Mathlib.Omega.{arith}
+use Rattle.std.specs.Prelude.{Ok}
+use Rattle.std.specs.Simd.{first_chunks}
+use Rattle.std.proofs.lemmas.List.{take-take, drop-take}
+use Rattle.std.specs.Int.{w32, w64, bytes_low_first, to_le_bytes, from_le_bytes}
 use borrow.Author.Tests.{lt-ltb, le-ltb, leb-true}
-use borrow.Rule.Slice.PartMut.{mid_of, put_mid, mid_len, same_len_mid}
 use lib.Dec.{eqb, leb}
-use lib.ListN.{length, get_or, take, drop, set, length-drop, length-set, take-append-drop, get_or-eq_default}
-use lib.Seq.{take_all, take_at, take-suc-set, drop_at, drop-cons, drop-drop}
-use Rattle.packed.specs.Numbers.{low_bytes}
+use lib.ListN.{length, get_or, take, drop, length-drop, take-append-drop, get_or-eq_default}
+use lib.Seq.{take_all, take_at, drop_at, drop-cons, drop-drop}
+use Rattle.packed.specs.Numbers.{low_first, low_bytes}
 use Rattle.packed.proofs.Bytes.{Bytes, behind}
-use Rattle.packed.proofs.Numbers.{length-low, low-back, bytes_back}
+use Rattle.packed.proofs.Numbers.{length-low, low-back, low-take, low_part, bytes_back}
 use Rattle.record.specs.declared.Entry.{Entry}
 use Rattle.record.proofs.Lists.{true_of, and_right}
-use Rattle.record.specs.Bytes.{entry_of, bytes_of, first_entries, entries_of, is_record, no_entry, read_at}
+use Rattle.record.specs.Entries.{entry}
+use Rattle.record.specs.Bytes.{entry_of, bytes_of, first_entries, entries_of, is_record, no_entry, fetched_by, read_at}
 
 -- ---- an entry and its bytes
 
@@ -58,6 +63,20 @@ first-at (suc n) (suc i) b h =
     let e : suc i * 12 ≡ 12 + i * 12 = omega arith in
     rw (e, ← drop-drop (i * 12) 12 b) (first-at n i (drop 12 b) (omega arith))
 
+-- an entry lies in its twelve bytes, which std cuts off
+chunk_entry : (b : List ℕ) → entry_of (take 12 b) ≡ entry_of b
+unfolding entry_of
+chunk_entry [] = refl
+chunk_entry (k ∷ []) = refl
+chunk_entry (k ∷ f ∷ b) =
+    rw (take-take 4 10 b (omega arith), drop-take 4 6 b, take-take 6 6 (drop 4 b) (omega arith))
+
+chunk-at : (n i : ℕ) (b d : List ℕ) → i < n → entry_of (get_or (first_chunks 12 n b) i d) ≡ get_or (first_entries n b) i no_entry
+unfolding first_entries
+chunk-at zero i b d h = absurd (omega arith)
+chunk-at (suc n) zero b d h = chunk_entry b
+chunk-at (suc n) (suc i) b d h = chunk-at n i (drop 12 b) d (omega arith)
+
 module _ (b : List ℕ) where
   pub length-entries : length (entries_of b) ≡ length b / 12
   unfolding entries_of
@@ -75,6 +94,11 @@ module _ (b : List ℕ) where
     pub read-in : i < length b / 12 → read_at b i ≡ record { no = 0; entry = get_or (entries_of b) i no_entry }
     read-in h = rw (length-entries, lt-ltb i (length b / 12) h)
 
+    pub read_chunk : (x d : List ℕ) → i < length b / 12 → x ≡ get_or (first_chunks 12 (length b / 12) b) i d
+        → fetched_by (Ok (entry_of x)) ≡ read_at b i
+    unfolding entries_of
+    read_chunk x d h e = sym (read-in h ∙ ap (λ (e : Entry). record { no = 0; entry = e }) (sym (ap entry_of e ∙ chunk-at (length b / 12) i b d h)))
+
     pub read_past : length b / 12 ≤ i → read_at b i ≡ record { no = 10; entry = no_entry }
     read_past h = rw (length-entries, le-ltb i (length b / 12) h, no-entry-at h)
 
@@ -82,52 +106,45 @@ module _ (b : List ℕ) where
     pub entries_from : i < length b / 12 → drop i (entries_of b) ≡ get_or (entries_of b) i no_entry ∷ drop (i + 1) (entries_of b)
     entries_from h = rw add-one (drop-cons (entries_of b) i no_entry (omega (arith, length-entries)))
 
--- ---- the writer
+-- ---- bytes of numbers, as std has them
 
-low-more : (k n : ℕ) → low_bytes (suc k) n ≡ n % 256 ∷ low_bytes k (n / 256)
+low_from : (i k n : ℕ) → bytes_low_first i k n ≡ low_bytes k (n / 256 ^ i)
 unfolding low_bytes
-low-more k n = refl
+low_from i zero n = refl
+low_from zero (suc k) n = let e : n / 256 ^ 0 ≡ n = omega arith in rw e (ap (λ (l : List ℕ). n % 256 ∷ l) (low_from 1 k n))
+low_from (suc i) (suc k) n =
+    let e : n / 256 ^ suc i / 256 ≡ n / 256 ^ suc (suc i) = div-div-eq-div-mul n (256 ^ suc i) 256 ∙ rw (pow-suc 256 (suc i)) in
+    rw e (ap (λ (l : List ℕ). n / 256 ^ suc i % 256 ∷ l) (low_from (suc (suc i)) k n))
 
-low-none : (n : ℕ) → low_bytes 0 n ≡ []
-unfolding low_bytes
-low-none n = refl
+four_bytes : (n : ℕ) → to_le_bytes w32 n ≡ low_bytes 4 n
+four_bytes n = low_from 0 4 n ∙ ap (low_bytes 4) (omega arith)
 
--- i bytes of `all` stand at the front of xs, and the others are those of v
-module _ (all xs : List ℕ) (i v : ℕ) (front : take i xs ++ low_bytes (length xs - i) v ≡ all) where
-  pub fill_more : i < length xs → take (i + 1) (set xs i (v % 256)) ++ low_bytes (length xs - (i + 1)) (v / 256) ≡ all
-  fill_more h =
-      let d : length xs - i ≡ suc (length xs - (i + 1)) = omega arith in
-      let e = rw (d, low-more) at front in
-      rw (ap (λ (j : ℕ). take j (set xs i (v % 256))) (add-one i), take-suc-set xs i (v % 256) h, append_assoc) e
+eight_bytes : (n : ℕ) → to_le_bytes w64 n ≡ low_bytes 8 n
+eight_bytes n = low_from 0 8 n ∙ ap (low_bytes 8) (omega arith)
 
-  pub fill_end : length xs ≤ i → xs ≡ all
-  fill_end h =
-      let d : length xs - i ≡ 0 = omega arith in
-      rw (d, low-none, append-nil, take_all i xs h) at front
+-- the content's four bytes and the lowest six of the time's
+pub put_bytes : (e : Entry) → e.kind ∷ e.flags ∷ to_le_bytes w32 e.content ++ take 6 (to_le_bytes w64 e.time) ≡ bytes_of e
+unfolding bytes_of
+put_bytes e =
+    ap₂ (λ (c t : List ℕ). e.kind ∷ e.flags ∷ c ++ t) (four_bytes e.content)
+    (ap (take 6) (eight_bytes e.time) ∙ low-take 6 8 e.time (omega arith))
 
-put-fields : (k f : ℕ) (c t out : List ℕ) → length c ≡ 4 → 12 ≤ length out
-    → put_mid 6 6 (put_mid 2 4 (set (set out 0 k) 1 f) c) t ≡ (k ∷ f ∷ c ++ t) ++ drop 12 out
-put-fields k f c t [] n h = absurd (omega arith)
-put-fields k f c t (x ∷ []) n h = absurd (omega arith)
-put-fields k f c t (x ∷ y ∷ out) n h =
-    rw (take_at c (drop 4 out) 4 n, drop_at c (drop 4 out) 4 n, drop-drop 6 4 out, append_assoc)
+four_back : (a b c d : ℕ) → from_le_bytes w32 (a ∷ b ∷ c ∷ d ∷ []) ≡ low_first (a ∷ b ∷ c ∷ d ∷ [])
+four_back a b c d = omega arith
 
--- an entry's fields in their places at the front of an output that has room: c and t fill the parts that are lent for them
-module _ (e : Entry) (c t out : List ℕ) (room : 12 ≤ length out) where
-  pub put-entry : (let xs = set (set out 0 e.kind) 1 e.flags in
-      let ys = put_mid 2 4 xs c in
-      c ≡ low_bytes (length (mid_of 2 4 xs)) e.content → t ≡ low_bytes (length (mid_of 6 6 ys)) e.time
-      → put_mid 6 6 ys t ≡ bytes_of e ++ drop 12 out)
-  unfolding bytes_of
-  put-entry p q =
-      let xs = set (set out 0 e.kind) 1 e.flags in
-      let l : length xs ≡ length out = simp length-set in
-      let n = mid_len 2 6 xs (omega arith) in
-      let p' : c ≡ low_bytes 4 e.content = p ∙ ap (λ (k : ℕ). low_bytes k e.content) n in
-      let m : length c ≡ 4 = ap length p' ∙ length-low 4 e.content in
-      let k = same_len_mid 2 4 xs c (m ∙ sym n) in
-      let q' : t ≡ low_bytes 6 e.time = q ∙ ap (λ (k : ℕ). low_bytes k e.time) (mid_len 6 12 (put_mid 2 4 xs c) (omega arith)) in
-      put-fields e.kind e.flags c t out m room ∙ rw (p', q')
+six_back : (a b c d e f : ℕ)
+    → from_le_bytes w64 (a ∷ b ∷ c ∷ d ∷ e ∷ f ∷ 0 ∷ 0 ∷ []) ≡ low_first (a ∷ b ∷ c ∷ d ∷ e ∷ f ∷ [])
+six_back a b c d e f = omega arith
+
+-- an entry's numbers, each from its bytes one by one
+pub by_byte : (b : List ℕ) → (let at : ℕ → ℕ = λ i. get_or b i 0 in
+    entry_of b ≡ entry (at 0) (at 1) (from_le_bytes w32 (at 2 ∷ at 3 ∷ at 4 ∷ at 5 ∷ []))
+    (from_le_bytes w64 (at 6 ∷ at 7 ∷ at 8 ∷ at 9 ∷ at 10 ∷ at 11 ∷ 0 ∷ 0 ∷ [])))
+unfolding entry_of
+by_byte b =
+    ap₂ (entry (get_or b 0 0) (get_or b 1 0))
+    (low_part 4 2 b ∙ sym (four_back _ _ _ _))
+    (low_part 6 6 b ∙ sym (six_back _ _ _ _ _ _))
 
 -- ---- the length of a record
 

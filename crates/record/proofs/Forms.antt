@@ -1,6 +1,6 @@
 -- What is well formed, as the code tests it.
 use Prim.Native.Nat.{ℕ, zero, suc, ◌<◌}
-use mathlib.Core.Path.{◌≡◌, refl, sym}
+use mathlib.Core.Path.{◌≡◌, refl, sym, ap, ◌∙◌}
 use Rattle.std.specs.Prelude.{Option, Some, None}
 use mathlib.Core.Bool.{Bool, true, false, ◌&&◌}
 use borrow.Author.Tests.{eqb-true, eqb-false}
@@ -38,3 +38,20 @@ fits_by (suc zero) e = refl
 fits_by (suc (suc zero)) e = refl
 fits_by (suc (suc (suc zero))) e = refl
 fits_by (suc (suc (suc (suc k)))) e = refl
+
+module _ (e : Entry) where
+  pub fits-controller : e.kind ≡ 0 → fits e.kind e ≡ flags_fit e.flags && ltb e.content 256
+  fits-controller p = fits_by e.kind e ∙ ap (λ (k : ℕ). fits_as (kind_of k) e) p
+
+  pub fits-deck : e.kind ≡ 1 → fits e.kind e ≡ eqb e.flags 0 && ltb e.content 256
+  fits-deck p = fits_by e.kind e ∙ ap (λ (k : ℕ). fits_as (kind_of k) e) p
+
+  pub fits-position : e.kind ≡ 2 → fits e.kind e ≡ eqb e.flags 0 && ltb e.content day
+  fits-position p = fits_by e.kind e ∙ ap (λ (k : ℕ). fits_as (kind_of k) e) p
+
+  pub fits-none : (k : ℕ) → (k ≡ 0 → ⊥) → (k ≡ 1 → ⊥) → (k ≡ 2 → ⊥) → (k ≡ 3 → ⊥) → fits k e ≡ false
+  fits-none zero a b c d = absurd (a refl)
+  fits-none (suc zero) a b c d = absurd (b refl)
+  fits-none (suc (suc zero)) a b c d = absurd (c refl)
+  fits-none (suc (suc (suc zero))) a b c d = absurd (d refl)
+  fits-none (suc (suc (suc (suc k)))) a b c d = fits_by (suc (suc (suc (suc k)))) e

@@ -1,9 +1,9 @@
 -- Document 01, "Line record and turns": entries as bytes, and the calls that read and write them.
-use Rattle.std.specs.Prelude.{ℕ, zero, suc, ◌/◌, ◌%◌, ◌<◌, ◌^◌, Bool, cond, ◌&&◌, List, [], ◌∷◌, ◌++◌, eqb, leb, ltb, length, take, drop, get_or}
+use Rattle.std.specs.Prelude.{ℕ, zero, suc, ◌/◌, ◌%◌, ◌<◌, ◌^◌, Bool, cond, Result, Ok, Err, ◌&&◌, List, [], ◌∷◌, ◌++◌, eqb, leb, ltb, length, take, drop, get_or}
 use Rattle.packed.specs.Numbers.{low_first, low_bytes}
+use Rattle.refusal.specs.declared.Refusal.{Refusal}
+use Rattle.refusal.specs.Numbers.{number_of}
 use Rattle.record.specs.declared.Entry.{Entry}
-use Rattle.record.specs.declared.Fetched.{Fetched}
-use Rattle.record.specs.declared.Written.{Written}
 use Rattle.record.specs.Entries.{entry}
 
 -- ---- "Entries are 12 bytes, no header: kind .., flags .., content in four bytes, time in six"
@@ -46,11 +46,31 @@ no_entry = entry 0 0 0 0
 
 -- ---- the reader
 
+-- the entry that was read, or the number that says that there is none
+pub record Fetched : Type 0 where
+  pub no : ℕ
+  pub entry : Entry
+
+-- an answer, as number and entry: zeros where there is none
+abbrev pub fetched_by : Result Entry Refusal → Fetched
+fetched_by (Ok e) = record { no = 0; entry = e }
+fetched_by (Err r) = record { no = number_of r; entry = no_entry }
+
 -- the entry with number i; 10 RECORD and zeros where the bytes have no such whole entry
 abbrev pub read_at : List ℕ → ℕ → Fetched
 read_at bytes i = record { no = cond (ltb i (length (entries_of bytes))) 0 10; entry = get_or (entries_of bytes) i no_entry }
 
 -- ---- the writer
+
+-- how many bytes were written, or the number that refuses the call
+pub record Written : Type 0 where
+  pub no : ℕ
+  pub len : ℕ
+
+-- an answer, as number and length: 0 where it refuses
+abbrev pub written_by : Result ℕ Refusal → Written
+written_by (Ok n) = record { no = 0; len = n }
+written_by (Err r) = record { no = number_of r; len = 0 }
 
 -- 1 ROOM: "lent output too short"; 2 LATE: "time over 281,474,976,710,655"
 unfoldable pub write_no : Entry → List ℕ → ℕ

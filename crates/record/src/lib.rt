@@ -1,24 +1,18 @@
 // Line records: entries of 12 bytes.
 #![tactic(auto)]
 
-ghost use Rattle.std.specs.Prelude.{◌≡◌, [], ◌∷◌, ◌≤◌, length};
-ghost use Rattle.packed.specs.Numbers.{low_first, low_bytes};
-ghost use Rattle.record.specs.Bytes.{entry_of, is_record, read_at, written, written_out};
+ghost use Rattle.std.specs.Prelude.{◌≡◌};
+ghost use Rattle.record.specs.Bytes.{entry_of, bytes_of, is_record, fetched_by, read_at, written_by, written, written_out};
 
 use deck::LAST_TIME;
 pub use form::formed;
 pub use handing::{hand, meant};
 pub use kind::Kind;
+use refusal::Refusal;
 
 mod form;
 mod handing;
 mod kind;
-
-const ROOM: u8 = 1;
-
-const LATE: u8 = 2;
-
-const RECORD: u8 = 10;
 
 const LONGEST: usize = 65532;
 
@@ -30,106 +24,62 @@ pub struct Entry {
     pub time: u64,
 }
 
-// The entry that was read, or the number that says that there is none.
-#[derive(Clone, Copy)]
-pub struct Fetched {
-    pub no: u8,
-    pub entry: Entry,
-}
+impl Entry {
+    #[tactic(auto, using(crate::proofs::Bytes::by_byte))]
+    fn from_bytes(bytes: &[u8; 12]) -> Entry
+        ensures { result ≡ entry_of bytes.now }
+    {
+        let [kind, flags, a, b, c, d, t, u, v, w, x, y] = *bytes;
+        Entry {
+            kind,
+            flags,
+            content: u32::from_le_bytes([a, b, c, d]),
+            time: u64::from_le_bytes([t, u, v, w, x, y, 0, 0]),
+        }
+    }
 
-// How many bytes were written, or the number that refuses the call.
-#[derive(Clone, Copy)]
-pub struct Written {
-    pub no: u8,
-    pub len: usize,
-}
-
-fn four(a: u8, b: u8, c: u8, d: u8) -> u32
-    ensures { result ≡ low_first (a ∷ b ∷ c ∷ d ∷ []) }
-{
-    a as u32 + 256 * (b as u32 + 256 * (c as u32 + 256 * (d as u32)))
-}
-
-fn six(a: u8, b: u8, c: u8, d: u8, e: u8, f: u8) -> u64
-    ensures { result ≡ low_first (a ∷ b ∷ c ∷ d ∷ e ∷ f ∷ []) }
-{
-    a as u64
-        + 256
-            * (b as u64 + 256 * (c as u64 + 256 * (d as u64 + 256 * (e as u64 + 256 * (f as u64)))))
-}
-
-// The entry of the first 12 bytes.
-fn first(b: &[u8]) -> Entry
-    requires { 12 ≤ length b.now }
-    ensures { result ≡ entry_of b.now }
-{
-    Entry {
-        kind: b[0],
-        flags: b[1],
-        content: four(b[2], b[3], b[4], b[5]),
-        time: six(b[6], b[7], b[8], b[9], b[10], b[11]),
+    // Of a time over six bytes the lowest six.
+    #[tactic(auto, using(crate::proofs::Bytes::put_bytes))]
+    fn to_bytes(self) -> [u8; 12]
+        ensures { result ≡ bytes_of self }
+    {
+        let [a, b, c, d] = self.content.to_le_bytes();
+        let [t, u, v, w, x, y, _, _] = self.time.to_le_bytes();
+        [self.kind, self.flags, a, b, c, d, t, u, v, w, x, y]
     }
 }
 
 // Whether a record may have so many bytes.
+#[tactic(auto, unfolding(crate::specs::Bytes::is_record))]
 pub fn is_record(size: usize) -> bool
     ensures { result ≡ is_record size }
 {
-    if size % 12 != 0 {
-        return false;
-    }
-    size <= LONGEST
+    size % 12 == 0 && size <= LONGEST
 }
 
-// The entry at this number; 10 and an entry of zeros where the bytes have no such whole entry.
-pub fn read(bytes: &[u8], place: usize) -> Fetched
-    ensures { result ≡ read_at bytes.now place }
+// The entry at this number; refused where the bytes have no such whole entry.
+pub fn read(bytes: &[u8], place: usize) -> Result<Entry, Refusal>
+    ensures { fetched_by result ≡ read_at bytes.now place }
 {
-    if place < bytes.len() / 12 {
-        let at = place * 12;
-        return Fetched {
-            no: 0,
-            entry: first(&bytes[at..]),
-        };
-    }
-    Fetched {
-        no: RECORD,
-        entry: Entry {
-            kind: 0,
-            flags: 0,
-            content: 0,
-            time: 0,
-        },
-    }
-}
-
-// Fills the output with the lowest bytes of a number, lowest first.
-fn fill(value: u64, out: &mut [u8])
-    ensures { out.new ≡ low_bytes (length out.old) value }
-{
-    let mut left = value;
-    let mut i = 0;
-    while i < out.len() {
-        out[i] = (left % 256) as u8;
-        left = left / 256;
-        i += 1;
+    let (entries, _) = bytes.as_chunks();
+    match entries.get(place) {
+        Some(entry) => Ok(Entry::from_bytes(entry)),
+        None => Err(Refusal::Record),
     }
 }
 
 // The entry's 12 bytes, at the front of the output.
-pub fn write(entry: Entry, out: &mut [u8]) -> Written
-    ensures answer { result ≡ written entry out.old }
+#[tactic(auto, unfolding(crate::specs::Bytes::write_no, crate::specs::Bytes::written, crate::specs::Bytes::written_out))]
+pub fn write(entry: Entry, out: &mut [u8]) -> Result<usize, Refusal>
+    ensures answer { written_by result ≡ written entry out.old }
     ensures output { out.new ≡ written_out entry out.old }
 {
     if out.len() < 12 {
-        return Written { no: ROOM, len: 0 };
+        return Err(Refusal::Room);
     }
     if LAST_TIME < entry.time {
-        return Written { no: LATE, len: 0 };
+        return Err(Refusal::Late);
     }
-    out[0] = entry.kind;
-    out[1] = entry.flags;
-    fill(entry.content as u64, &mut out[2..6]);
-    fill(entry.time, &mut out[6..12]);
-    Written { no: 0, len: 12 }
+    out[..12].copy_from_slice(&entry.to_bytes());
+    Ok(12)
 }

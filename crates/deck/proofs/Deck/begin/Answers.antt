@@ -11,7 +11,7 @@ use Rattle.deck.proofs.Deck.begin.Goals as goal
 pub returns : goal.returns
 returns c =
     let a = c.args in (
-      ap (λ (o : List ℕ). deck o a.time a.self.free a.self.settings) (first_block a.content _ (omega arith)),
+      rw c.from.ensures (ap (λ (o : List ℕ). deck o a.time a.self.free a.self.settings) (first_block a.content c.none-self.result (omega arith))),
       refl,
-      made-first _ refl (omega arith) c.none-self.ensures,
+      made-first _ refl (rw c.from.ensures (omega arith)) c.none-self.ensures,
     )

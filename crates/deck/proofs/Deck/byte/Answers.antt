@@ -1,46 +1,35 @@
 -- `Deck::byte` meets its contract.
-use mathlib.Core.Path.{refl, sym, ◌∙◌}
+use mathlib.Core.Path.{sym}
 use Rattle.deck.specs.Line.{byte}
 use Rattle.deck.specs.Calls.{view}
 use Rattle.deck.proofs.Found.{byte-in-time}
-use Rattle.deck.proofs.Made.{made_so}
-use Rattle.deck.proofs.Numbers.{in-range, refuses, takes}
+use Rattle.deck.proofs.Numbers.{admitted, refuses, takes}
 use Rattle.deck.proofs.Deck.byte.Goals as goal
 
-pub returns-then-no-ne0 : goal.returns-then-no-ne0
-returns-then-no-ne0 c =
+pub returns-in_err-check : goal.returns-in_err-check
+returns-in_err-check c =
     let a = c.args in
-    let n = c.refusal-no in
-    refuses a.self (byte a.time a.content a.flags) a.out.now n.result n.ensures c.refused.result
-    c.if-no-ne0.true c.refused.ensures
+    refuses a.self (byte a.time a.content a.flags) a.out.now _ _ c.from_residual.ensures.1 c.in_err-check.ensures
 
 pub late-requires : goal.late-requires
 late-requires c =
-    let a = c.args in
-    let n = c.refusal-no in
-    let p = in-range a.self (byte a.time a.content a.flags) a.out.now n.result n.ensures c.if-no-ne0.false in
-    (sym c.timed_out.ensures ∙ c.if-timed_out.true, p.0, p.1)
+    let a = c.args in (
+      sym c.if-timed_out.ensures,
+      admitted a.self (byte a.time a.content a.flags) a.out.now c.in_ok-check.ensures,
+    )
 
 pub returns-then-timed_out : goal.returns-then-timed_out
 returns-then-timed_out c =
     let a = c.args in
-    let n = c.refusal-no in
-    let l = c.late in
-    takes a.self (byte a.time a.content a.flags) a.out.now n.result n.ensures l.result _
-    c.if-no-ne0.false l.ensures.0 (λ _. l.ensures.1)
+    takes a.self (byte a.time a.content a.flags) a.out.now c.in_ok-check.ensures _ _ c.late.ensures
 
 pub heard-requires : goal.heard-requires
 heard-requires c =
     let a = c.args in
-    let n = c.refusal-no in
-    in-range a.self (byte a.time a.content a.flags) a.out.now n.result n.ensures c.if-no-ne0.false
+    admitted a.self (byte a.time a.content a.flags) a.out.now c.in_ok-check.ensures
 
 pub returns : goal.returns
 returns c =
     let a = c.args in
-    let n = c.refusal-no in
-    let h = c.heard in
-    takes a.self (byte a.time a.content a.flags) a.out.now n.result n.ensures h.result _ c.if-no-ne0.false
-    (rw (byte-in-time (view a.self) a.time a.content a.flags
-    (sym c.timed_out.ensures ∙ c.if-timed_out.false)) h.ensures.0)
-    (λ m. h.ensures.1 (made_so _ _ refl refl refl m))
+    takes a.self (byte a.time a.content a.flags) a.out.now c.in_ok-check.ensures _ _
+    (rw (byte-in-time (view a.self) a.time a.content a.flags (sym c.if-timed_out.ensures)) c.heard.ensures)

@@ -24,40 +24,42 @@ nak-answer-requires c =
 
 pub returns-then-time-deck : goal.returns-then-time-deck
 returns-then-time-deck c =
-    let free = ap (λ (x : Call). x.deck.free) c.nak-answer.ensures.0 in
+    let free = ap (λ (x : Call). x.deck.free) c.nak-answer.ensures.seen-is in
     let a = c.args in
     let k = c.nak-answer.ensures in
-    (rw (late-in-quiet (view a.self) a.time a.content a.flags c.requires.0 (rw (← free) c.if-time-deck.true)) k.0, k.1)
+    rw (late-in-quiet (view a.self) a.time a.content a.flags c.requires.0 (rw (← free) c.if-time-deck.true)) k
 
 pub returns-then-flags-ne0 : goal.returns-then-flags-ne0
 returns-then-flags-ne0 c =
-    let free = ap (λ (x : Call). x.deck.free) c.nak-answer.ensures.0 in
+    let free = ap (λ (x : Call). x.deck.free) c.nak-answer.ensures.seen-is in
     let a = c.args in
-    let k = c.nak-answer.ensures.0 in
-    let m = c.nak-written.ensures in
+    let k = c.nak-answer.ensures.seen-is in
+    let m = c.nak-len.ensures in
     let v = c.void.ensures in
     let part = mid_of 4 (length c.nak-answer.new.out - 4) c.nak-answer.new.out in
-    let room : 4 ≤ length part = simp (length-take, length-drop) (omega arith) in (
-      rw (late-flagged (view a.self) a.time a.content a.flags c.requires.0 (rw (← free) c.if-time-deck.false)
+    let room : 4 ≤ length part = simp (length-take, length-drop) (omega arith) in
+    record {
+      seen-is = rw (late-flagged (view a.self) a.time a.content a.flags c.requires.0 (rw (← free) c.if-time-deck.false)
           c.if-flags-ne0.true)
           (same-call refl (v.1 ∙ ap (λ (x : Call). x.clock) k)
           (v.0 ∙ ap (λ (x : Call). (voided x.deck a.flags a.time).deck) k)
           (ap (λ (x : Call). x.first) k) (rw (m.0, nak-answer a.flags part room))
           (behind (nak time_out) (nak a.flags) a.out.now _ _ 4 4 refl (ap (λ (x : Call). x.out) k)
-          (m.1 ∙ nak-output a.flags part room))),
-      v.2,
-    )
+          (m.1 ∙ nak-output a.flags part room)));
+      made = λ _. v.2;
+    }
 
 pub returns : goal.returns
 returns c =
-    let free = ap (λ (x : Call). x.deck.free) c.nak-answer.ensures.0 in
+    let free = ap (λ (x : Call). x.deck.free) c.nak-answer.ensures.seen-is in
     let a = c.args in
-    let k = c.nak-answer.ensures.0 in
-    let v = c.begin.ensures in (
-      rw (late-clean (view a.self) a.time a.content a.flags c.requires.0 (rw (← free) c.if-time-deck.false)
+    let k = c.nak-answer.ensures.seen-is in
+    let v = c.begin.ensures in
+    record {
+      seen-is = rw (late-clean (view a.self) a.time a.content a.flags c.requires.0 (rw (← free) c.if-time-deck.false)
           c.if-flags-ne0.false)
           (same-call refl (v.1 ∙ ap (λ (x : Call). x.clock) k)
           (v.0 ∙ ap (λ (x : Call). deck (a.content ∷ []) a.time x.deck.free x.deck.settings) k)
-          (ap (λ (x : Call). x.first) k) refl (ap (λ (x : Call). x.out) k)),
-      v.2,
-    )
+          (ap (λ (x : Call). x.first) k) (ap (λ (x : Call). x.second) k) (ap (λ (x : Call). x.out) k));
+      made = λ _. v.2;
+    }

@@ -1,29 +1,19 @@
 -- `Deck::look` meets its contract.
-use mathlib.Core.Path.{refl}
 use Rattle.deck.specs.Line.{look}
 use Rattle.deck.specs.Calls.{view}
 use Rattle.deck.proofs.Steps.{look-alone}
-use Rattle.deck.proofs.Made.{made_so}
-use Rattle.deck.proofs.Numbers.{in-range, refuses, takes}
+use Rattle.deck.proofs.Numbers.{admitted, refuses, takes}
 use Rattle.deck.proofs.Deck.look.Goals as goal
 
-pub returns-then-no-ne0 : goal.returns-then-no-ne0
-returns-then-no-ne0 c =
+pub returns-in_err-check : goal.returns-in_err-check
+returns-in_err-check c =
     let a = c.args in
-    let n = c.refusal-no in
-    refuses a.self (look a.time) a.out.now n.result n.ensures c.refused.result
-    c.if-no-ne0.true c.refused.ensures
+    refuses a.self (look a.time) a.out.now _ _ c.from_residual.ensures.1 c.in_err-check.ensures
 
 pub looked-requires : goal.looked-requires
-looked-requires c =
-    let a = c.args in
-    let n = c.refusal-no in
-    in-range a.self (look a.time) a.out.now n.result n.ensures c.if-no-ne0.false
+looked-requires c = let a = c.args in admitted a.self (look a.time) a.out.now c.in_ok-check.ensures
 
 pub returns : goal.returns
 returns c =
     let a = c.args in
-    let n = c.refusal-no in
-    let l = c.looked in
-    takes a.self (look a.time) a.out.now n.result n.ensures l.result _ c.if-no-ne0.false
-    (rw (look-alone (view a.self) a.time) l.ensures.0) (λ m. l.ensures.1 (made_so _ _ refl refl refl m))
+    takes a.self (look a.time) a.out.now c.in_ok-check.ensures _ _ (rw (look-alone (view a.self) a.time) c.looked.ensures)

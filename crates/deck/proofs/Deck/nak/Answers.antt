@@ -1,5 +1,5 @@
 -- `Deck::nak` meets its contract: what is written, and the deck without an open block.
-use mathlib.Core.Path.{◌∙◌}
+use mathlib.Core.Path.{refl, ◌∙◌}
 use native.Mathlib.Omega.{arith}
 use Rattle.deck.proofs.Output.{nak-answer, nak-output}
 use Rattle.deck.proofs.Seen.{same-call}
@@ -8,9 +8,8 @@ use Rattle.deck.proofs.Deck.nak.Goals as goal
 pub returns : goal.returns
 returns c =
     let a = c.args in
-    let n = c.nak-written.ensures in
+    let n = c.nak-len.ensures in
     let v = c.void.ensures in
-    let e = c.said.ensures in
     let z = nak-answer a.why a.out.now (omega arith) in
     let y = nak-output a.why a.out.now (omega arith) in
-    (same-call e.0 (rw e.1 v.1) (rw e.1 v.0) (rw (e.2, n.0, z)) e.3 (n.1 ∙ y), rw e.1 v.2)
+    record { seen-is = same-call refl v.1 v.0 (rw (n.0, z)) refl (n.1 ∙ y); made = λ _. v.2 }

@@ -1,34 +1,25 @@
 -- `Deck::position` meets its contract: a look, and the position set.
-use mathlib.Core.Path.{refl}
 use Rattle.settings.specs.Settings.{with_position}
 use Rattle.deck.specs.Line.{position, looked}
 use Rattle.deck.specs.Calls.{view}
+use Rattle.deck.specs.Joins.{with_clock}
 use Rattle.deck.proofs.Steps.{answers-other}
-use Rattle.deck.proofs.Made.{made_so}
-use Rattle.deck.proofs.Numbers.{in-range, refuses, takes}
-use Rattle.deck.proofs.Seen.{resettled}
+use Rattle.deck.proofs.Numbers.{admitted, refuses, takes}
+use Rattle.deck.proofs.Seen.{comes-resettled}
 use Rattle.deck.proofs.Deck.position.Goals as goal
 
-pub returns-then-no-ne0 : goal.returns-then-no-ne0
-returns-then-no-ne0 c =
+pub returns-in_err-check : goal.returns-in_err-check
+returns-in_err-check c =
     let a = c.args in
-    let n = c.refusal-no in
-    refuses a.self (position a.time a.place) a.out.now n.result n.ensures c.refused.result
-    c.if-no-ne0.true c.refused.ensures
+    refuses a.self (position a.time a.place) a.out.now _ _ c.from_residual.ensures.1 c.in_err-check.ensures
 
 pub looked-answer-requires : goal.looked-answer-requires
-looked-answer-requires c =
-    let a = c.args in
-    let n = c.refusal-no in
-    in-range a.self (position a.time a.place) a.out.now n.result n.ensures c.if-no-ne0.false
+looked-answer-requires c = let a = c.args in admitted a.self (position a.time a.place) a.out.now c.in_ok-check.ensures
 
 pub returns : goal.returns
 returns c =
     let a = c.args in
-    let n = c.refusal-no in
     let l = c.looked-answer in
-    let r = c.with_settings in
-    takes a.self (position a.time a.place) a.out.now n.result n.ensures r.result _ c.if-no-ne0.false
+    takes a.self (position a.time a.place) a.out.now c.in_ok-check.ensures _ _
     (rw (answers-other (view a.self) (position a.time a.place) tt)
-    (resettled (with_position a.place) a.time (looked (view a.self) a.time) a.out.now _ l.result r.result
-    l.ensures.0 r.ensures)) (λ m. r.ensures.5 (l.ensures.1 (made_so _ _ refl refl refl m)))
+    (comes-resettled (with_position a.place) (with_clock a.time a.self) (looked (view a.self) a.time) a.out.now _ l.result l.ensures))

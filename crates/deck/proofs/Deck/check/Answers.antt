@@ -1,4 +1,4 @@
--- `number::refusal` meets its contract: the tests of the code are those of the definition, in its order.
+-- `Deck::check` meets its contract: the tests of the code are those of the definition, in its order.
 use mathlib.Core.Bool.{cond, not}
 use Prim.Native.Nat.{ℕ, ◌≤◌}
 use mathlib.Core.Path.{◌≡◌}
@@ -8,7 +8,7 @@ use lib.Dec.{leb}
 use Rattle.deck.specs.Calls.{flags_fit, refusal}
 use Rattle.deck.proofs.Flags.{fit, unfit}
 use Rattle.timecode.specs.Time.{day}
-use Rattle.deck.proofs.number.refusal.Goals as goal
+use Rattle.deck.proofs.Deck.check.Goals as goal
 
 -- past the tests of room and time
 past : (room clock time flags place : ℕ) → 18 ≤ room → time ≤ 281_474_976_710_655 → clock ≤ time
@@ -24,24 +24,24 @@ pub returns-then-time-gt-LAST_TIME : goal.returns-then-time-gt-LAST_TIME
 unfolding refusal
 returns-then-time-gt-LAST_TIME c = simp (le-ltb _ _ c.if-room-lt18.false, lt-ltb _ _ c.if-time-gt-LAST_TIME.true)
 
-pub returns-then-time-clock : goal.returns-then-time-clock
+pub returns-then-time-self : goal.returns-then-time-self
 unfolding refusal
-returns-then-time-clock c =
-    simp (le-ltb _ _ c.if-room-lt18.false, le-ltb _ _ c.if-time-gt-LAST_TIME.false, lt-ltb _ _ c.if-time-clock.true)
+returns-then-time-self c =
+    simp (le-ltb _ _ c.if-room-lt18.false, le-ltb _ _ c.if-time-gt-LAST_TIME.false, lt-ltb _ _ c.if-time-self.true)
 
 pub returns-then-flags-ne0 : goal.returns-then-flags-ne0
 returns-then-flags-ne0 c =
-    let left = past c.args.room c.args.clock c.args.time c.args.flags c.args.place c.if-room-lt18.false c.if-time-gt-LAST_TIME.false c.if-time-clock.false in
+    let left = past c.args.room c.args.self.clock c.args.time c.args.flags c.args.place c.if-room-lt18.false c.if-time-gt-LAST_TIME.false c.if-time-self.false in
     rw (left, unfit c.args.flags (omega arith) c.if-flags-ne0.true)
 
 pub returns-then-place-ge-DAY : goal.returns-then-place-ge-DAY
 returns-then-place-ge-DAY c =
-    let left = past c.args.room c.args.clock c.args.time c.args.flags c.args.place c.if-room-lt18.false c.if-time-gt-LAST_TIME.false c.if-time-clock.false in
+    let left = past c.args.room c.args.self.clock c.args.time c.args.flags c.args.place c.if-room-lt18.false c.if-time-gt-LAST_TIME.false c.if-time-self.false in
     let fits = fit c.args.flags (omega arith) c.if-flags-ne0.false in
     rw (left, fits, le-leb day _ c.if-place-ge-DAY.true)
 
 pub returns : goal.returns
 returns c =
-    let left = past c.args.room c.args.clock c.args.time c.args.flags c.args.place c.if-room-lt18.false c.if-time-gt-LAST_TIME.false c.if-time-clock.false in
+    let left = past c.args.room c.args.self.clock c.args.time c.args.flags c.args.place c.if-room-lt18.false c.if-time-gt-LAST_TIME.false c.if-time-self.false in
     let fits = fit c.args.flags (omega arith) c.if-flags-ne0.false in
     rw (left, fits, lt-leb day _ c.if-place-ge-DAY.false)
