@@ -60,3 +60,5 @@ module _ (block : List ℕ) (e : read_no block ≡ 0) where
   length-data =
       let n : length block - 3 ≤ length (drop 2 block) = omega (arith, length-drop 2 block) in
       rw (data-read, length-take-le) (omega (arith, length-read))
+
+pub ruleset reading = (length-read, fields_read, data-read)

@@ -1,5 +1,7 @@
 -- Document 01, "Numbers that calls return": the reader, for any bytes.
-use Rattle.std.specs.Prelude.{ℕ, ◌+◌, ◌-◌, Bool, cond, not, ◌||◌, List, [], length, take, drop, ◌==◌, nat_lt, slice_index}
+use Rattle.std.specs.Prelude.{ℕ, ◌+◌, ◌-◌, Bool, cond, not, ◌||◌, List, [], length, take, drop, ◌==◌, nat_lt, slice_index, Result, Ok, Err}
+use Rattle.refusal.specs.declared.Refusal.{Refusal}
+use Rattle.refusal.specs.Numbers.{number_of}
 use Rattle.block.specs.Block.{group_of, count_of, checksum}
 use Rattle.block.specs.declared.Header.{Header}
 
@@ -15,8 +17,20 @@ sum_wrong block = not (checksum (take (length block - 1) block) == slice_index b
 unfoldable pub read_no : List ℕ → ℕ
 read_no block = cond (length_wrong block) 7 (cond (sum_wrong block) 8 0)
 
+-- the fields of a block, or the number of a refusal and zeros
+pub record Fields : Type 0 where
+  pub no : ℕ
+  pub group : ℕ
+  pub command : ℕ
+  pub count : ℕ
+
+-- an answer as number and fields: a refusal has none
+abbrev pub fields_by : Result Header Refusal → Fields
+fields_by (Ok h) = record { no = 0; group = h.group; command = h.command; count = h.count }
+fields_by (Err e) = record { no = number_of e; group = 0; command = 0; count = 0 }
+
 -- the fields; "All of these but 0 return no other content (zeros, and from the reader an empty part)"
-unfoldable pub read_fields : List ℕ → Header
+unfoldable pub read_fields : List ℕ → Fields
 read_fields block =
     cond (read_no block == 0)
     (record {

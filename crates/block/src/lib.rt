@@ -1,133 +1,87 @@
 // Blocks: a first byte, a command byte, up to 15 data bytes and a checksum.
 #![tactic(auto)]
 
-ghost use Rattle.std.specs.Prelude.{◌≡◌, ◌+◌, ◌≤◌, ◌∷◌, ◌++◌, length, drop};
+ghost use Rattle.std.specs.Prelude.{◌≡◌};
+ghost use Rattle.refusal.specs.Numbers.{no_of};
 ghost use Rattle.block.specs.Block.{checksum};
-ghost use Rattle.block.specs.Read.{read_no, read_fields, read_data};
-ghost use Rattle.block.specs.Write.{written, written_out};
+ghost use Rattle.block.specs.Read.{fields_by, read_no, read_fields, read_data};
+ghost use Rattle.block.specs.Write.{written_by, written, written_out};
 
-const ROOM: u8 = 1;
+use refusal::Refusal;
 
-const LENGTH: u8 = 7;
-
-const SUM: u8 = 8;
-
-const FIELD: u8 = 9;
-
-// What the reader tells of a block, or the number that refuses it.
-#[derive(Clone, Copy)]
+// What the reader tells of a block.
+#[derive(Clone, Copy, Debug, PartialEq, Eq)]
 pub struct Header {
-    pub no: u8,
     pub group: u8,
     pub command: u8,
     pub count: u8,
 }
 
-// The length of the block that was written, or the number that refuses it.
-#[derive(Clone, Copy)]
-pub struct Written {
-    pub no: u8,
-    pub len: usize,
-}
-
-fn wide(x: u8) -> usize
-    ensures { result ≡ x }
-{
-    x as usize
-}
-
+#[tactic(auto, using(crate::proofs::Sums::checksum_folds))]
 pub fn sum(bytes: &[u8]) -> u8
     ensures { result ≡ checksum bytes.now }
 {
-    let mut total: u8 = 0;
-    let mut i = 0;
-    while i < bytes.len() {
-        total = std::num::wrapping_add_u8(total, bytes[i]);
-        i += 1;
-    }
-    total
+    bytes
+        .iter()
+        .fold(0, |total: u8, byte| total.wrapping_add(*byte))
 }
 
-fn number(bytes: &[u8]) -> u8
-    ensures { result ≡ read_no bytes.now }
+#[tactic(auto, unfolding(crate::specs::Read::read_no))]
+fn check(block: &[u8]) -> Result<(), Refusal>
+    ensures { no_of result ≡ read_no block.now }
 {
-    let n = bytes.len();
-    if n < 3 {
-        return LENGTH;
+    let [first, _, .., last] = *block else {
+        return Err(Refusal::Length);
+    };
+    if block.len() != usize::from(first & 15) + 3 {
+        return Err(Refusal::Length);
     }
-    if n != wide(bytes[0] & 15) + 3 {
-        return LENGTH;
+    if sum(&block[..block.len() - 1]) != last {
+        return Err(Refusal::Sum);
     }
-    if sum(&bytes[..n - 1]) != bytes[n - 1] {
-        return SUM;
-    }
-    0
+    Ok(())
 }
 
-pub fn fields(bytes: &[u8]) -> Header
-    ensures { result ≡ read_fields bytes.now }
+#[tactic(auto, using(refusal::proofs::Numbers::refuses, crate::proofs::Reading::reading), unfolding(crate::specs::Read::read_fields))]
+pub fn fields(bytes: &[u8]) -> Result<Header, Refusal>
+    ensures { fields_by result ≡ read_fields bytes.now }
 {
-    let no = number(bytes);
-    if no != 0 {
-        return Header {
-            no: no,
-            group: 0,
-            command: 0,
-            count: 0,
-        };
-    }
+    check(bytes)?;
     let first = bytes[0];
-    Header {
-        no: 0,
+    Ok(Header {
         group: first >> 4,
         command: bytes[1],
         count: first & 15,
-    }
+    })
 }
 
 // The data of a block that reads, as that part of it; of any other bytes an empty part.
+#[tactic(auto, using(refusal::proofs::Numbers::refuses, crate::proofs::Reading::reading), unfolding(crate::specs::Read::read_data))]
 pub fn data(bytes: &[u8]) -> &[u8]
     ensures { result.now ≡ read_data bytes.now }
 {
-    if number(bytes) != 0 {
-        return &bytes[..0];
+    match check(bytes) {
+        Ok(()) => &bytes[2..bytes.len() - 1],
+        Err(_) => &bytes[..0],
     }
-    let end = bytes.len() - 1;
-    &bytes[2..end]
-}
-
-// What stands before the checksum, at the front of the output.
-fn put(first: u8, command: u8, data: &[u8], out: &mut [u8])
-    requires { length «data».now + 2 ≤ length out.old }
-    ensures { out.new
-        ≡ (first ∷ command ∷ «data».now) ++ drop (length «data».now + 2) out.old }
-{
-    out[0] = first;
-    out[1] = command;
-    let end = data.len() + 2;
-    out[2..end].copy_from_slice(data);
 }
 
 // The block of these fields, at the front of the output.
-pub fn write(group: u8, command: u8, data: &[u8], out: &mut [u8]) -> Written
-    ensures answer { result ≡ written group «data».now out.old }
+#[tactic(auto, unfolding(crate::specs::Write::write_no, crate::specs::Write::written, crate::specs::Write::written_out))]
+pub fn write(group: u8, command: u8, data: &[u8], out: &mut [u8]) -> Result<usize, Refusal>
+    ensures answer { written_by result ≡ written group «data».now out.old }
     ensures output { out.new ≡ written_out group command «data».now out.old }
 {
-    let count = data.len();
-    if 15 < group {
-        return Written { no: FIELD, len: 0 };
+    if 15 < group || 15 < data.len() {
+        return Err(Refusal::Field);
     }
-    if 15 < count {
-        return Written { no: FIELD, len: 0 };
-    }
-    let end = count + 2;
+    let end = data.len() + 2;
     if out.len() <= end {
-        return Written { no: ROOM, len: 0 };
+        return Err(Refusal::Room);
     }
-    put(group << 4 | count as u8, command, data, out);
+    out[0] = group << 4 | data.len() as u8;
+    out[1] = command;
+    out[2..end].copy_from_slice(data);
     out[end] = sum(&out[..end]);
-    Written {
-        no: 0,
-        len: end + 1,
-    }
+    Ok(end + 1)
 }

@@ -1,6 +1,8 @@
 -- Document 01, "Line word".
-use Rattle.std.specs.Prelude.{Bool, cond, ◌||◌, ℕ, ◌+◌, ◌/◌, ◌%◌, eqb, ltb}
+use Rattle.std.specs.Prelude.{Bool, cond, ◌||◌, ℕ, ◌+◌, ◌/◌, ◌%◌, eqb, ltb, Result, Ok, Err}
 use Rattle.std.specs.Int.Count.{ones}
+use Rattle.refusal.specs.declared.Refusal.{Refusal}
+use Rattle.refusal.specs.Numbers.{number_of}
 use Rattle.line.specs.declared.Received.{Received}
 
 -- "An 11-bit word, bit 0 first on the line: start (0), eight data bits from the lowest, parity, stop (1)."
@@ -28,8 +30,19 @@ line_flags word = cond (parity_wrong word) 0x10 0 + cond (eqb (stop_bit word) 0)
 abbrev pub not_word : ℕ → Bool
 not_word word = ltb 0x7FF word || eqb (start_bit word) 1
 
+-- a word's byte and its flags, or the number of a refusal and zeros
+pub record Heard : Type 0 where
+  pub no : ℕ
+  pub byte : ℕ
+  pub flags : ℕ
+
+-- an answer as number, byte and flags: a refusal has none
+abbrev pub heard_by : Result Received Refusal → Heard
+heard_by (Ok r) = record { no = 0; byte = r.byte; flags = r.flags }
+heard_by (Err e) = record { no = number_of e; byte = 0; flags = 0 }
+
 -- the answer to any number; a refusal has zeros beside its number
-unfoldable pub received : ℕ → Received
+unfoldable pub received : ℕ → Heard
 received word =
     cond (not_word word) (record { no = 6; byte = 0; flags = 0 })
     (record { no = 0; byte = data_bits word; flags = line_flags word })

@@ -1,19 +1,18 @@
 // Line words: the 11 bits that carry one byte over the line.
 #![tactic(auto)]
 
-ghost use Rattle.std.specs.Prelude.{◌≡◌, ◌+◌, ◌/◌, ◌%◌};
-ghost use Rattle.line.specs.Word.{received, line_flags};
+ghost use Rattle.std.specs.Prelude.{◌≡◌};
+ghost use Rattle.line.specs.Word.{heard_by, received, line_flags};
 
-const WORD: u8 = 6;
+use refusal::Refusal;
 
 const PARITY: u8 = 0x10;
 
 const FRAMING: u8 = 0x40;
 
-// A word's byte and its flags, or the number that refuses it.
-#[derive(Clone, Copy)]
+// A word's byte and its flags.
+#[derive(Clone, Copy, Debug, PartialEq, Eq)]
 pub struct Received {
-    pub no: u8,
     pub byte: u8,
     pub flags: u8,
 }
@@ -22,31 +21,21 @@ pub struct Received {
 fn flags_of(word: u32) -> u8
     ensures { result ≡ line_flags word }
 {
-    let ones = u32::count_ones((word >> 1) & 0x1FF);
-    let stop = (word >> 10) & 1;
-    let mut flags: u8 = 0;
-    if ones % 2 == 0 {
-        flags = PARITY;
-    }
-    if stop == 0 {
-        flags = flags | FRAMING;
-    }
-    flags
+    let ones = (word >> 1 & 0x1FF).count_ones();
+    let parity = if ones % 2 == 0 { PARITY } else { 0 };
+    let framing = if word >> 10 & 1 == 0 { FRAMING } else { 0 };
+    parity | framing
 }
 
-pub fn receive(word: u32) -> Received
-    ensures { result ≡ received word }
+#[tactic(auto, unfolding(crate::specs::Word::received))]
+pub fn receive(word: u32) -> Result<Received, Refusal>
+    ensures { heard_by result ≡ received word }
 {
     if 0x7FF < word || word & 1 == 1 {
-        return Received {
-            no: WORD,
-            byte: 0,
-            flags: 0,
-        };
+        return Err(Refusal::Word);
     }
-    Received {
-        no: 0,
-        byte: ((word >> 1) & 0xFF) as u8,
+    Ok(Received {
+        byte: (word >> 1 & 0xFF) as u8,
         flags: flags_of(word),
-    }
+    })
 }

@@ -7,7 +7,7 @@ ghost use Rattle.settings.specs.Status.{status_bytes};
 
 mod bits;
 
-#[derive(Clone, Copy)]
+#[derive(Clone, Copy, Debug, PartialEq, Eq)]
 pub enum Mode {
     NoMode,
     Stop,
@@ -20,14 +20,14 @@ pub enum Mode {
     Shuttle,
 }
 
-#[derive(Clone, Copy)]
+#[derive(Clone, Copy, Debug, PartialEq, Eq)]
 pub enum Which {
     In,
     Out,
 }
 
 // An entry point: its position and its flag.
-#[derive(Clone, Copy)]
+#[derive(Clone, Copy, Debug, PartialEq, Eq)]
 pub struct Point {
     pub at: u32,
     pub on: bool,
@@ -35,7 +35,7 @@ pub struct Point {
 
 // The speed is in thousandths of the play speed, minus in reverse. In and Out stand here as bare positions and flags: a
 // `Point` ends in three bytes of padding, which every copy would carry along.
-#[derive(Clone, Copy)]
+#[derive(Clone, Copy, Debug, PartialEq, Eq)]
 pub struct Settings {
     pub cassette: bool,
     pub mode: Mode,
@@ -70,43 +70,39 @@ impl Settings {
     }
 
     // A cassette is loaded.
+    #[tactic(auto, unfolding(crate::specs::Settings::loaded))]
     pub fn load(self) -> Settings
         ensures { result ≡ loaded self }
     {
         if self.cassette {
-            return self;
+            self
+        } else {
+            Settings {
+                cassette: true,
+                ..self.with_motion(Mode::Stop, 0)
+            }
         }
-        let mut s = self.with_motion(Mode::Stop, 0);
-        s.cassette = true;
-        s
     }
 
+    #[tactic(auto, unfolding(crate::specs::Status::status_bytes))]
     pub fn status(self) -> [u8; 13]
         ensures { result ≡ status_bytes self }
     {
-        let a = bits::status0(self);
-        let b = bits::status1(self);
-        let c = bits::status2(self);
-        let d = bits::status3(self);
-        [a, b, c, d, 0, 0, 0, 0, 0, 0, 0, 0, 0]
+        let mut bytes = [0; 13];
+        bytes[0] = self.status0();
+        bytes[1] = self.status1();
+        bytes[2] = self.status2();
+        bytes[3] = self.status3();
+        bytes
     }
 
-    // A field that is an enum is not stored to, so the struct is made anew.
     pub fn with_motion(self, mode: Mode, speed: i32) -> Settings
         ensures { result ≡ with_motion mode speed self }
     {
         Settings {
-            cassette: self.cassette,
-            mode: mode,
-            local: self.local,
-            speed: speed,
-            standby: self.standby,
-            cued: self.cued,
-            position: self.position,
-            inon: self.inon,
-            outon: self.outon,
-            inat: self.inat,
-            outat: self.outat,
+            mode,
+            speed,
+            ..self
         }
     }
 
@@ -125,19 +121,20 @@ impl Settings {
         }
     }
 
-    pub fn with_point(mut self, which: Which, point: Point) -> Settings
+    pub fn with_point(self, which: Which, point: Point) -> Settings
         ensures { result ≡ with_point which point self }
     {
         match which {
-            Which::In => {
-                self.inat = point.at;
-                self.inon = point.on;
-            }
-            Which::Out => {
-                self.outat = point.at;
-                self.outon = point.on;
-            }
+            Which::In => Settings {
+                inat: point.at,
+                inon: point.on,
+                ..self
+            },
+            Which::Out => Settings {
+                outat: point.at,
+                outon: point.on,
+                ..self
+            },
         }
-        self
     }
 }

@@ -1,39 +1,40 @@
 // Reading into a buffer that is lent.
 #![tactic(auto)]
 
-ghost use Rattle.std.specs.Prelude.{◌≡◌, ◌<◌, ◌≤◌, false, length, take};
+ghost use Rattle.std.specs.Prelude.{◌≡◌, ℕ, ◌<◌, ◌≤◌, List, IfOk, IfSome, IfNone, length, take};
 ghost use Rattle.std.specs.Io.KnownBytes.{Consumes, IsAtEnd};
+ghost use Rattle.streams.specs.Came.{came};
 
 use std::io::Read;
 
-// How many bytes came, and whether a read failed.
-#[derive(Clone, Copy)]
-pub struct Came {
+// A read failed, behind this many bytes.
+#[derive(Clone, Copy, PartialEq, Eq, Debug)]
+pub struct Cut {
     pub count: usize,
-    pub failed: bool,
 }
 
 // Reads until the buffer is full, the input ends or a read fails, a read that a signal interrupts too. What came stands at the front.
-pub fn read_full<R: Read>(input: &mut R, space: &mut [u8]) -> Came
-    ensures in_bounds { result.count ≤ length space.new }
-    ensures bytes { Consumes (R.remaining input.old) (R.remaining input.new) (take result.count space.new) }
-    ensures all { result.failed ≡ false → result.count < length space.new → IsAtEnd (R.remaining input.new) }
+pub fn read_full<R: Read>(input: &mut R, space: &mut [u8]) -> Result<usize, Cut>
+    ensures in_bounds { came result ≤ length space.new }
+    ensures bytes { Consumes (R.remaining input.old) (R.remaining input.new) (take (came result) space.new) }
+    ensures all { IfOk result (λ count. count < length space.new → IsAtEnd (R.remaining input.new)) }
 {
     let mut count = 0;
     while count < space.len() {
         match input.read(&mut space[count..]) {
             Ok(0) => break,
             Ok(more) => count += more,
-            Err(_) => {
-                return Came {
-                    count,
-                    failed: true,
-                };
-            }
+            Err(_) => return Err(Cut { count }),
         }
     }
-    Came {
-        count,
-        failed: false,
-    }
+    Ok(count)
+}
+
+// An array of the next bytes, or none where the input has too few.
+pub fn read_array<R: Read, const N: usize>(input: &mut R) -> Option<[u8; N]>
+    ensures whole { IfSome result (λ bytes. Consumes (R.remaining input.old) (R.remaining input.new) bytes) }
+    ensures short { IfNone result ((bytes : List ℕ) × (length bytes ≤ N) × Consumes (R.remaining input.old) (R.remaining input.new) bytes) }
+{
+    let mut bytes = [0; N];
+    (read_full(input, &mut bytes) == Ok(N)).then_some(bytes)
 }

@@ -1,9 +1,8 @@
 -- The laws of `text`.
-pub mod Tests
 pub mod Putting
-pub mod Writing
 pub mod Digits
 pub mod Hexadecimal
 pub mod Lengths
+pub mod Writing
 -- texts by computation
 pub mod Examples

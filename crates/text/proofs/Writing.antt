@@ -1,19 +1,26 @@
 -- A call that writes, and the text that it puts.
-use Prim.Native.Nat.{ℕ, ◌+◌, ◌*◌, ◌≤◌}
-use mathlib.Core.Path.{◌≡◌, refl, sym, ◌∙◌}
+use Rattle.std.specs.Prelude.{Result, Ok, Err, IsOk, is_ok}
+use Prim.Native.Nat.{ℕ, ◌+◌, ◌≤◌}
+use mathlib.Core.Path.{◌≡◌, refl, sym, ap, ◌∙◌}
 use mathlib.Core.Bool.{true, false}
-use mathlib.Core.List.{List, ◌++◌, append_assoc}
+use mathlib.Core.List.{List, [], ◌++◌, append_assoc}
 use native.Mathlib.Omega.{arith}
-use borrow.Author.Tests.{le-ltb, ltb-false}
+use borrow.Author.Tests.{le-ltb, lt-ltb}
 use lib.Dec.{ltb}
-use lib.ListN.{length, take, drop, length-append, length-drop, take-append-drop}
+use lib.ListN.{length, take, drop, length-append, length-drop, length-take, take-append-drop}
 use lib.Seq.{length-take-le, take_at, drop_at}
-use Rattle.text.specs.declared.Put.{Put}
-use Rattle.text.specs.Text.{hex_line}
-use Rattle.text.specs.Puts.{Puts}
-use Rattle.text.specs.Writes.{Writes, put_in, put_out}
-use Rattle.text.proofs.Putting.{joined}
-use Rattle.text.proofs.Lengths.{hex-line-long}
+use Rattle.std.proofs.Common.{inl, inr}
+use Rattle.std.proofs.lemmas.Bool.{cases_lt}
+use Rattle.refusal.specs.declared.Refusal.{Refusal}
+use Rattle.refusal.specs.declared.Refusal.TheVariants.{Room}
+use Rattle.refusal.proofs.Numbers.{refuses}
+use Rattle.text.specs.declared.Page.{Page}
+use Rattle.text.specs.Puts.{Puts, Adds}
+use Rattle.text.specs.Writes.{Writes, Put, put_in, put_out, put_by}
+use Rattle.text.proofs.Putting.{none, joined}
+
+abbrev pub Fits : Page → List ℕ → Type 0
+Fits p text = p.end + length text ≤ length p.out.now
 
 -- ---- the definitions, where the text fits and where it does not
 
@@ -26,77 +33,76 @@ module _ (out : List ℕ) (at : ℕ) (text : List ℕ) where
   unfolding put_out
   output-fits h = rw (le-ltb _ _ h, append_assoc)
 
-  -- what the test of the room tells
-  module _ (len : ℕ) (is : length text ≡ len) where
-    pub no_room : ltb (length out) (at + len) ≡ true → Writes out at text out (record { no = 1; end = 0 })
-    unfolding put_in put_out
-    no_room h = record { answer = rw (is, h); output = rw (is, h) }
+-- a call that was taken
+taken : (r : Result Unit Refusal) (end n : ℕ) → put_by r end ≡ record { no = 0; end = n } → IsOk r × (end ≡ n)
+taken (Ok tt) end n e = (refl, ap (λ (p : Put). p.end) e)
+taken (Err x) end n e = absurd (refuses x (ap (λ (p : Put). p.no) e))
 
-    pub enough : ltb (length out) (at + len) ≡ false → at + length text ≤ length out
-    enough h = rw is (ltb-false _ _ h)
-
--- ---- where it fits, what is written is the text put
-
-pub puts : {out : List ℕ} {at : ℕ} {text out' : List ℕ} {r : Put} → Writes out at text out' r → at + length text ≤ length out
-    → (r.no ≡ 0) × Puts out at text out' r.end
-puts {out} {at} {text} w fits =
-    let e = w.answer ∙ put-fits out at text fits in
-    let o = w.output ∙ output-fits out at text fits in
-    let n : length (take at out ++ text) ≡ at + length text =
-    rw (length-append, length-take-le at out (omega arith)) in
-    rw (e, o)
-    (refl, record { ends = refl; front = take_at (take at out ++ text) _ _ n; back = drop_at (take at out ++ text) _ _ n })
-
-pub writes : {out : List ℕ} {at : ℕ} {text out' : List ℕ} {end : ℕ} → Puts out at text out' end → at + length text ≤ length out
-    → Writes out at text out' (record { no = 0; end = end })
-writes {out} {at} {text} {out'} {end} p fits =
+pub adds : {a : Page} {text : List ℕ} {b : Page} {r : Result Unit Refusal} → Writes a text b r → Adds a text b r
+adds {a} {text} {b} {r} w =
     record {
-      answer = rw (put-fits out at text fits, p.ends);
-      output = sym (take-append-drop end out') ∙ rw (p.front, p.back, p.ends, output-fits out at text fits);
+      fits = λ h.
+          let out = a.out.now in
+          let e = taken r b.end _ (w.answer ∙ put-fits out a.end text h) in
+          let n : length (take a.end out ++ text) ≡ a.end + length text =
+          rw (length-append, length-take-le a.end out (omega arith)) in (
+            e.0,
+            rw (w.output, output-fits out a.end text h, e.1)
+                (record { ends = refl; front = take_at (take a.end out ++ text) _ _ n; back = drop_at (take a.end out ++ text) _ _ n }),
+          );
+      same = w.same;
     }
 
--- in an output with room for the longest such text
-pub within : {out : List ℕ} {at : ℕ} {text out' : List ℕ} {r : Put} → Writes out at text out' r
-    → {most : ℕ} → length text ≤ most → at + most ≤ length out → Puts out at text out' r.end × (r.end ≤ at + most)
-within w few room = let p = (puts w (omega arith)).1 in (p, omega (arith, p.ends))
+-- ---- what the test of the room tells
 
--- how long a line of bytes is depends on their number alone
-pub hex-line-puts : {out : List ℕ} {at : ℕ} (words bytes : List ℕ) {out' : List ℕ} {r : Put}
-    → Writes out at (hex_line words bytes) out' r → at + length words + 3 * length bytes + 1 ≤ length out
-    → Puts out at (hex_line words bytes) out' r.end × (r.end ≡ at + length words + 3 * length bytes + 1)
-hex-line-puts words bytes w room =
-    let n = hex-line-long words bytes in
-    let p = (puts w (omega arith)).1 in
-    (p, omega (arith, p.ends))
+module _ {a : Page} {text : List ℕ} (len : ℕ) where
+  pub refused : {e : Refusal} → (Fits a text → a.end + len ≤ length a.out.now) → e ≡ Room
+      → (a.end + len ≤ length a.out.now → false ≡ true) → Writes a text a (Err e)
+  unfolding put_in put_out
+  refused {e} f is never =
+      let short : ltb (length a.out.now) (a.end + length text) ≡ true =
+      elim (cases_lt (length a.out.now) (a.end + length text)) [ inl h ↦ lt-ltb _ _ h | inr h ↦ let e = never (f h) in cc ] in
+      record { answer = rw (is, short); output = rw short; place = λ _. refl; same = refl }
 
 -- ---- one text behind another
 
-long : {out : List ℕ} {at : ℕ} {text out' : List ℕ} {r : Put} → Writes out at text out' r → at + length text ≤ length out
-    → length out' ≡ length out
-long {out} {at} {text} w fits =
-    rw (w.output, output-fits out at text fits)
-    (simp (length-append, length-drop, length-take-le at out (omega arith)) (omega arith))
+pub nothing : (a : Page) → Adds a [] a (Ok (tt {0}))
+nothing a = record { fits = λ _. (refl, none a.out.now a.end); same = refl }
 
-module _ {a b xs : List ℕ} {at : ℕ} {r : Put} (w : Writes a at xs b r) where
-  -- the room that is left
-  rest : (ys : List ℕ) → at + length (xs ++ ys) ≤ length a → r.end + length ys ≤ length b
-  rest ys fits =
-      let n = length-append xs ys in
-      let first : at + length xs ≤ length a = omega arith in
-      omega (arith, (puts w first).1.ends, long w first)
+long : {before : List ℕ} {at : ℕ} {text after : List ℕ} {end : ℕ} → Puts before at text after end → end ≤ length before
+    → length after ≡ length before
+long {before} {at} {text} {after} {end} p room =
+    omega (arith, ap length p.front, ap length p.back, length-append (take at before) text, length-take at before, length-take end after, length-drop end after, length-drop end before, p.ends)
 
-  behind : {c ys : List ℕ} {s : Put} → Writes b r.end ys c s → at + length (xs ++ ys) ≤ length a → Writes a at (xs ++ ys) c s
-  behind {c} {ys} {s} v fits =
-      let n = length-append xs ys in
-      let p = (puts w (omega arith)).1 in
-      let e : r.end + length ys ≡ at + length (xs ++ ys) = omega (arith, p.ends) in
+module _ {A : Type 0} {a b : Page} {xs : List ℕ} {r : Result A Refusal} (w : Adds a xs b r) where
+  -- a page that has room for both has it for the first
+  first : (ys : List ℕ) → Fits a (xs ++ ys) → Fits a xs
+  first ys h = omega (arith, length-append xs ys)
+
+  pub behind : {B : Type 0} {ys : List ℕ} {c : Page} {s : Result B Refusal} → Adds b ys c s → Adds a (xs ++ ys) c s
+  behind {B} {ys} {c} {s} v =
       record {
-        answer = v.answer ∙ rw (put-fits b r.end ys (rest ys fits), put-fits a at (xs ++ ys) fits, e);
-        output = (writes (joined p (puts v (rest ys fits)).1) fits).output;
+        fits = λ h.
+            let p = (w.fits (first ys h)).1 in
+            let q = v.fits (omega (arith, p.ends, length-append xs ys, long p (omega (arith, p.ends, first ys h)))) in
+            (q.0, joined p q.1);
+        same = v.same ∙ w.same;
       }
 
--- three texts
-pub one-behind-other : {a b c d xs ys zs : List ℕ} {at : ℕ} {r s t : Put}
-    → Writes a at xs b r → Writes b r.end ys c s → Writes c s.end zs d t
-    → at + length (xs ++ (ys ++ zs)) ≤ length a → Writes a at (xs ++ (ys ++ zs)) d t
-one-behind-other {ys = ys} {zs = zs} w v u fits = behind w (behind v u (rest w (ys ++ zs) fits)) fits
+  -- where the first was refused, no room was there for both
+  pub stops : {B : Type 0} {e : Refusal} → r ≡ Err e → (ys : List ℕ) (s : Result B Refusal) → Adds a (xs ++ ys) b s
+  stops is ys s = record { fits = λ h. let ok = (w.fits (first ys h)).0 in let err = ap is_ok is in absurd (cc); same = w.same }
+
+module _ {a b : Page} {xs : List ℕ} where
+  pub written : {r : Result (Unit {0}) Refusal} → Adds a xs b r → Fits a xs → Writes a xs b r
+  unfolding put_in put_out
+  written {r = Ok tt} w h =
+      let p = w.fits h in
+      let q = p.1 in
+      record {
+        answer = rw (put-fits a.out.now a.end xs h, q.ends);
+        output = sym (take-append-drop b.end b.out.now) ∙ rw (q.front, q.back, q.ends, output-fits a.out.now a.end xs h);
+        place = λ err. absurd (cc);
+        same = w.same;
+      }
+  written {r = Err e} w h = let ok = (w.fits h).0 in absurd (cc)

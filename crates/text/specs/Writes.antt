@@ -1,6 +1,13 @@
--- What a call returns and writes that puts a text into a lent output, for any output and any place in it.
-use Rattle.std.specs.Prelude.{ℕ, ◌+◌, ◌≡◌, Bool, cond, List, ◌++◌, ltb, length, take, drop}
-use Rattle.text.specs.declared.Put.{Put}
+-- What a call returns and writes that puts a text on a page, for any output and any place in it.
+use Rattle.std.specs.Prelude.{ℕ, ◌+◌, ◌≡◌, Bool, cond, List, ◌++◌, ltb, length, take, drop, Result, Ok, Err, IsErr}
+use Rattle.refusal.specs.declared.Refusal.{Refusal}
+use Rattle.refusal.specs.Numbers.{number_of}
+use Rattle.text.specs.declared.Page.{Page}
+
+-- 0 and where the text ends, or the number that refuses the output
+pub record Put : Type 0 where
+  pub no : ℕ
+  pub end : ℕ
 
 -- 1 ROOM: "lent output too short", for this text from `at` on
 abbrev pub too_short : (out : List ℕ) (at : ℕ) (text : List ℕ) → Bool
@@ -15,7 +22,15 @@ put_in out at text =
 unfoldable pub put_out : (out : List ℕ) (at : ℕ) (text : List ℕ) → List ℕ
 put_out out at text = cond (too_short out at text) out (take at out ++ (text ++ drop (at + length text) out))
 
--- the whole call: the output before it, the place, the text, the output after it and the answer
-pub record Writes (before : List ℕ) (at : ℕ) (text after : List ℕ) (r : Put) : Type 0 where
-  pub answer : r ≡ put_in before at text
-  pub output : after ≡ put_out before at text
+-- an answer, and the place that the page then has, as number and end
+abbrev pub put_by : Result Unit Refusal → ℕ → Put
+put_by (Ok _) end = record { no = 0; end = end }
+put_by (Err e) end = record { no = number_of e; end = 0 }
+
+-- the whole call: the page before it, the text, the page after it and the answer. The page keeps its output, and where it is
+-- refused its place.
+pub record Writes (before : Page) (text : List ℕ) (after : Page) (r : Result Unit Refusal) : Type 0 where
+  pub answer : put_by r after.end ≡ put_in before.out.now before.end text
+  pub output : after.out.now ≡ put_out before.out.now before.end text
+  pub place : IsErr r → after.end ≡ before.end
+  pub same : after.out.ghost_name ≡ before.out.ghost_name

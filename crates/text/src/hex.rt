@@ -1,71 +1,45 @@
 // Bytes in hexadecimal.
-ghost use Rattle.std.specs.Prelude.{◌+◌, ◌*◌, ◌^◌, ◌≤◌, ◌<◌, ◌≡◌, ltb, length};
+ghost use Rattle.std.specs.Prelude.{◌+◌, ◌*◌, ◌≡◌, ◌≤◌, ◌<◌, ◌↔◌, length, IsOk, IsOkUnless};
 ghost use Rattle.text.specs.Text.{hex_digit, hexes, hex_line};
 ghost use Rattle.text.specs.Writes.{Writes};
-ghost use Rattle.text.specs.Puts.{Puts};
 
-use super::{Put, ROOM, short};
+use super::Page;
+use refusal::Refusal;
 
 fn hex_digit(n: u8) -> u8
     requires { n < 16 }
     ensures { result ≡ hex_digit n }
 {
-    if n < 10 {
-        return 48 + n;
-    }
-    55 + n
+    if n < 10 { b'0' + n } else { b'A' - 10 + n }
 }
 
-// Whether there is no room for so many bytes in hexadecimal, three for each, and so many others. Three times a length can be more
-// than a `usize` holds, so the count is tested first.
-fn short_of_hexes(room: usize, at: usize, others: usize, count: usize) -> bool
-    requires { others + room < 2 ^ 64 }
-    ensures { result ≡ ltb room (at + (others + 3 * count)) }
-{
-    if room / 3 < count {
-        return true;
+impl Page<'_> {
+    // Refuses so many bytes in hexadecimal, three for each, and so many others, if there is no room for them.
+    fn check_hex_room(&self, others: usize, count: usize) -> Result<(), Refusal>
+        ensures fits { IsOk result ↔ (self.now.end + (others + 3 * count) ≤ length self.now.out.now) }
+        ensures err { IsOkUnless result Refusal.Room }
+    {
+        self.check_room(count.saturating_mul(3).saturating_add(others))
     }
-    short(room, at, others + 3 * count)
-}
 
-fn put_hexes(out: &mut [u8], at: usize, bytes: &[u8]) -> usize
-    requires { at + 3 * length bytes.now ≤ length out.old }
-    ensures { Puts out.old at (hexes bytes.now) out.new result }
-{
-    let mut end = at;
-    let mut i: usize = 0;
-    while i < bytes.len() {
-        let byte = bytes[i];
-        out[end] = b' ';
-        out[end + 1] = hex_digit(byte >> 4);
-        out[end + 2] = hex_digit(byte & 15);
-        end += 3;
-        i += 1;
+    // Bytes in two upper-case digits, each behind a space.
+    pub fn hexes(&mut self, bytes: &[u8]) -> Result<(), Refusal>
+        ensures { Writes self.old (hexes bytes.now) self.new result }
+    {
+        self.check_hex_room(0, bytes.len())?;
+        for byte in bytes {
+            self.words(&[b' ', hex_digit(byte >> 4), hex_digit(byte & 15)])?;
+        }
+        Ok(())
     }
-    end
-}
 
-// Bytes in two upper-case digits, each behind a space.
-pub fn hexes(out: &mut [u8], at: usize, bytes: &[u8]) -> Put
-    ensures { Writes out.old at (hexes bytes.now) out.new result }
-{
-    if short_of_hexes(out.len(), at, 0, bytes.len()) {
-        return Put { no: ROOM, end: 0 };
+    // Some words, bytes and the line's end.
+    pub fn hex_line(&mut self, words: &[u8], bytes: &[u8]) -> Result<(), Refusal>
+        ensures { Writes self.old (hex_line words.now bytes.now) self.new result }
+    {
+        self.check_hex_room(words.len() + 1, bytes.len())?;
+        self.words(words)?;
+        self.hexes(bytes)?;
+        self.words(b"\n")
     }
-    Put {
-        no: 0,
-        end: put_hexes(out, at, bytes),
-    }
-}
-
-// Some words, bytes and the line's end.
-pub fn hex_line(out: &mut [u8], at: usize, words: &[u8], bytes: &[u8]) -> Put
-    ensures { Writes out.old at (hex_line words.now bytes.now) out.new result }
-{
-    if short_of_hexes(out.len(), at, words.len() + 1, bytes.len()) {
-        return Put { no: ROOM, end: 0 };
-    }
-    let from = super::words(out, at, words).end;
-    let end = hexes(out, from, bytes).end;
-    super::words(out, end, b"\n")
 }

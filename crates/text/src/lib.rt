@@ -1,56 +1,42 @@
-// Texts put into a lent output: each public function puts its text there from `at` on, or refuses the output and writes nothing.
+// Texts put into a lent output, one behind the other: each public function puts its text behind the last one, or refuses the output
+// and writes nothing.
 #![tactic(auto)]
 
-ghost use Rattle.std.specs.Prelude.{◌+◌, ◌≤◌, ◌≡◌, ltb, length};
+ghost use Rattle.std.specs.Prelude.{◌+◌, ◌≤◌, ◌↔◌, length, IsOk, IsOkUnless};
 ghost use Rattle.text.specs.Writes.{Writes};
-ghost use Rattle.text.specs.Puts.{Puts};
+
+use refusal::Refusal;
 
 mod hex;
 mod numbers;
 
-pub use hex::{hex_line, hexes};
-pub use numbers::{at_line, decimal, line};
-
-const ROOM: u8 = 1;
-
-// Where the text ends, or the number that refuses the output.
-#[derive(Clone, Copy)]
-pub struct Put {
-    pub no: u8,
+// A lent output, and the place in it for the next text, any place.
+#[derive(Drop)]
+pub struct Page<'a> {
+    pub out: &'a mut [u8],
     pub end: usize,
 }
 
-// Whether an output of so many bytes has no room for so many from `at` on.
-fn short(room: usize, at: usize, len: usize) -> bool
-    ensures { result ≡ ltb room (at + len) }
-{
-    if room < at {
-        return true;
+impl Page<'_> {
+    // Refuses so many bytes if there is no room for them.
+    fn check_room(&self, len: usize) -> Result<(), Refusal>
+        ensures fits { IsOk result ↔ (self.now.end + len ≤ length self.now.out.now) }
+        ensures err { IsOkUnless result Refusal.Room }
+    {
+        match self.out.len().checked_sub(self.end) {
+            Some(left) if len <= left => Ok(()),
+            _ => Err(Refusal::Room),
+        }
     }
-    room - at < len
-}
 
-fn put_words(out: &mut [u8], at: usize, text: &[u8]) -> usize
-    requires { at + length text.now ≤ length out.old }
-    ensures { Puts out.old at text.now out.new result }
-{
-    let mut i: usize = 0;
-    while i < text.len() {
-        out[at + i] = text[i];
-        i += 1;
-    }
-    at + i
-}
-
-// A text as it is.
-pub fn words(out: &mut [u8], at: usize, text: &[u8]) -> Put
-    ensures { Writes out.old at text.now out.new result }
-{
-    if short(out.len(), at, text.len()) {
-        return Put { no: ROOM, end: 0 };
-    }
-    Put {
-        no: 0,
-        end: put_words(out, at, text),
+    // A text as it is.
+    pub fn words(&mut self, text: &[u8]) -> Result<(), Refusal>
+        ensures { Writes self.old text.now self.new result }
+    {
+        self.check_room(text.len())?;
+        let end = self.end + text.len();
+        self.out[self.end..end].copy_from_slice(text);
+        self.end = end;
+        Ok(())
     }
 }

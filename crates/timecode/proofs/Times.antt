@@ -11,9 +11,7 @@ use lib.Arith.{digits_div, digits_lt, digits_mod}
 use lib.Dec.{ltb}
 use lib.ListN.{length, get_or}
 use Rattle.timecode.specs.Bcd.{bcd, bcd_value}
-use Rattle.timecode.specs.Time.{frames, day, Legal, position_of, time_of, is_time, placed, read_time, write_time, frame_on, frame_back}
-use Rattle.timecode.specs.declared.Placed.{Placed}
-use Rattle.timecode.specs.declared.Timed.{Timed}
+use Rattle.timecode.specs.Time.{frames, day, Placed, Timed, Legal, position_of, time_of, is_time, placed, read_time, write_time, frame_on, frame_back}
 use Rattle.timecode.proofs.Bcd.{bcd-lt, bcd-value, below, below-byte, below-value}
 use Rattle.timecode.proofs.Tests.{both, chosen}
 

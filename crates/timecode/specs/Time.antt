@@ -1,8 +1,8 @@
 -- Document 01, "Times" and "Positions".
-use Rattle.std.specs.Prelude.{Bool, cond, ◌&&◌, List, [], ◌∷◌, ◌≡◌, ℕ, ◌+◌, ◌-◌, ◌*◌, ◌/◌, ◌%◌, ◌<◌, eqb, ltb, length, get_or}
+use Rattle.std.specs.Prelude.{Bool, cond, ◌&&◌, List, [], ◌∷◌, ◌≡◌, ℕ, ◌+◌, ◌-◌, ◌*◌, ◌/◌, ◌%◌, ◌<◌, eqb, ltb, length, get_or, Result, Ok, Err}
+use Rattle.refusal.specs.declared.Refusal.{Refusal}
+use Rattle.refusal.specs.Numbers.{number_of}
 use Rattle.timecode.specs.Bcd.{bcd, bcd_value, bcd_below}
-use Rattle.timecode.specs.declared.Placed.{Placed}
-use Rattle.timecode.specs.declared.Timed.{Timed}
 
 -- "at 25 frames: 0 to 24, 59, 59, 23"
 abbrev pub frames : ℕ
@@ -42,8 +42,27 @@ is_time bytes =
     && bcd_below 24 (get_or bytes 3 0)
 
 -- a position, or the number of a refusal and 0
+pub record Placed : Type 0 where
+  pub no : ℕ
+  pub position : ℕ
+
 abbrev pub placed : ℕ → ℕ → Placed
 placed n p = record { no = n; position = p }
+
+-- an answer as number and position: a refusal has none
+abbrev pub placed_by : Result ℕ Refusal → Placed
+placed_by (Ok p) = placed 0 p
+placed_by (Err e) = placed (number_of e) 0
+
+-- time bytes, or the number of a refusal and zeros
+pub record Timed : Type 0 where
+  pub no : ℕ
+  pub bytes : List ℕ
+
+-- an answer as number and bytes: a refusal has none
+abbrev pub timed_by : Result (List ℕ) Refusal → Timed
+timed_by (Ok b) = record { no = 0; bytes = b }
+timed_by (Err e) = record { no = number_of e; bytes = 0 ∷ 0 ∷ 0 ∷ 0 ∷ [] }
 
 -- from time bytes; 9 FIELD: "a time that is not four BCD bytes in range"
 unfoldable pub read_time : List ℕ → Placed

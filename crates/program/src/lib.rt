@@ -1,0 +1,50 @@
+// What the programs share: each takes all of standard input and no argument, and tells on standard error what kept it from its work.
+#![tactic(auto)]
+
+ghost use Rattle.std.specs.Prelude.{◌≡◌, ◌≢◌, ℕ, ◌<◌, ◌≤◌, List, IfOk, IfErr, length, take};
+ghost use Rattle.std.specs.Io.KnownBytes.{Consumes, IsAtEnd};
+
+use std::env::FillError;
+use std::io::Read;
+use std::rt::Env;
+
+// What kept a program from its work.
+#[derive(Clone, Copy, PartialEq, Eq, Debug)]
+pub enum Failure {
+    Argument,
+    Read,
+    Write,
+}
+
+// Reads all of the input, or as much of it as there is space for. A name given as an argument would be passed over, and an empty
+// standard input taken in its place; and a terminal can go on behind an end.
+pub fn read<R: Read>(rt: &impl Env, input: &mut R, space: &mut [u8]) -> Result<usize, Failure>
+    ensures in_bounds { IfOk result (λ count. count ≤ length space.new) }
+    ensures bytes { IfOk result (λ count. Consumes (R.remaining input.old) (R.remaining input.new) (take count space.new)) }
+    ensures all { IfOk result (λ count. count < length space.new → IsAtEnd (R.remaining input.new)) }
+    ensures argument { result ≡ Err Failure.Argument → (space.new ≡ space.old) × (input.new ≡ input.old) }
+    ensures lost { IfErr result (λ _. (bytes : List ℕ) × Consumes (R.remaining input.old) (R.remaining input.new) bytes) }
+    ensures unwritten { IfErr result (λ failure. failure ≢ Failure.Write) }
+{
+    if !matches!(rt.arg(1, &mut [0]), Err(FillError::NotPresent)) {
+        return Err(Failure::Argument);
+    }
+    let count = streams::read_full(input, space).map_err(|_| Failure::Read)?;
+    if count < space.len() && !matches!(input.read(&mut [0]), Ok(0)) {
+        return Err(Failure::Read);
+    }
+    Ok(count)
+}
+
+impl Failure {
+    // `takes` names what the program takes on standard input.
+    pub fn tell(self, rt: &impl Eprint, program: &str, takes: &str) {
+        let _ = match self {
+            Failure::Argument => {
+                eprintln!(rt; "{program}: takes no argument, use: {program} < {takes}")
+            }
+            Failure::Read => eprintln!(rt; "{program}: not all could be read"),
+            Failure::Write => eprintln!(rt; "{program}: not all could be written"),
+        };
+    }
+}
