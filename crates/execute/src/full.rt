@@ -18,17 +18,11 @@ pub(super) struct Short {
 
 impl Short {
     // The checksum, with this first byte.
-    #[tactic(auto, unfolding(block::specs::Block::sum))]
     pub(super) fn sum(self, first: u8) -> u8
         ensures { result ≡ checksum (first ∷ self.command ∷ self.«data») }
     {
         let [a, b, c, d] = self.data;
-        first
-            .wrapping_add(self.command)
-            .wrapping_add(a)
-            .wrapping_add(b)
-            .wrapping_add(c)
-            .wrapping_add(d)
+        block::sum(&[first, self.command, a, b, c, d])
     }
 }
 
