@@ -6,6 +6,7 @@ ghost use Rattle.line.specs.Word.{heard_by, received, line_flags};
 
 use refusal::Refusal;
 
+// Flags are bits of one byte, and both may be set: an enum would be no plainer.
 const PARITY: u8 = 0x10;
 
 const FRAMING: u8 = 0x40;

@@ -2,7 +2,7 @@
 ghost use Rattle.std.specs.Prelude.{◌≡◌, [], ◌∷◌, get_or};
 ghost use Rattle.packed.specs.Tail.{recent, kept};
 
-use super::{TOP, Tail};
+use super::Tail;
 
 impl Tail {
     // No byte has come.
@@ -17,8 +17,8 @@ impl Tail {
         ensures { result ≡ kept (byte ∷ recent self) }
     {
         Tail {
-            low: self.low % TOP * 256 + byte as u64,
-            high: self.high % TOP * 256 + self.low / TOP,
+            low: self.low << 8 | u64::from(byte),
+            high: self.high << 8 | self.low >> 56,
         }
     }
 
@@ -26,12 +26,10 @@ impl Tail {
     pub fn at(self, back: usize) -> u8
         ensures { result ≡ get_or (recent self) back 0 }
     {
-        if back < 8 {
-            return super::byte_of(self.low, back);
+        match back {
+            0..8 => super::byte_of(self.low, back),
+            8..16 => super::byte_of(self.high, back - 8),
+            _ => 0,
         }
-        if back < 16 {
-            return super::byte_of(self.high, back - 8);
-        }
-        0
     }
 }
