@@ -26,7 +26,8 @@ impl Short {
     }
 }
 
-// The sum of the latest bytes.
+// The sum of the latest bytes. The proof of an iterator chain here did not close: what a fold over the range, or over the bytes of both
+// numbers, adds up.
 #[tactic(auto, using(crate::proofs::Totals::checksum_next), unfolding(block::specs::Block::sum))]
 fn total(tail: Tail, count: usize) -> u8
     ensures { result ≡ checksum (take count (recent tail)) }
