@@ -39,11 +39,5 @@ fn next(rt: &impl Print, input: &mut impl Read, deck: Deck) -> Option<Deck> {
 
 fn main(rt: HostRuntime) {
     let mut input = rt.stdin();
-    let mut deck = Deck::power_on();
-    for _ in 0..MOST {
-        let Some(after) = next(&rt, &mut input, deck) else {
-            return;
-        };
-        deck = after;
-    }
+    let _ = (0..MOST).try_fold(Deck::power_on(), |deck, _| next(&rt, &mut input, deck));
 }

@@ -23,7 +23,7 @@ module _ (s : Settings) (block : List ℕ) where
     -- then the data: a time that is none, or a byte that is not among those listed
     pub no-time : (e : Effect) → lookup commands (get_or block 0 0) (get_or block 1 0) ≡ Some (Ack e) → fits e (read_data block) ≡ false
         → execute s block ≡ refused s undefined
-    no-time e k h = execute-read s block reads ∙ (carry-kind s (read_data block) _ _ k ∙ carry-unfit e s (read_data block) h)
+    no-time e k h = execute-read s block reads ∙ (carry-kind s (read_data block) _ _ k ∙ carry-unfit s (read_data block) e h)
 
     pub no-time-sense : lookup commands (get_or block 0 0) (get_or block 1 0) ≡ Some TapeTime
         → within 0x01 0x04 (get_or (read_data block) 0 0) ≡ false → execute s block ≡ refused s undefined

@@ -28,7 +28,7 @@ pub(super) fn refuse(settings: Settings, fault: Fault, out: &mut [u8]) -> Execut
     ensures answer { result ≡ shown (refused settings (why_of fault)) }
     ensures output { out.new ≡ shown_out (refused settings (why_of fault)) out.old }
 {
-    let why = fault.why();
+    let why = fault.byte();
     Executed {
         settings,
         len: super::nak(why, out).unwrap(),

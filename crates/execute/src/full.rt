@@ -18,21 +18,16 @@ pub(super) struct Short {
 
 impl Short {
     // The checksum, with this first byte.
-    #[tactic(auto, unfolding(block::specs::Block::sum))]
     pub(super) fn sum(self, first: u8) -> u8
         ensures { result ≡ checksum (first ∷ self.command ∷ self.«data») }
     {
         let [a, b, c, d] = self.data;
-        first
-            .wrapping_add(self.command)
-            .wrapping_add(a)
-            .wrapping_add(b)
-            .wrapping_add(c)
-            .wrapping_add(d)
+        block::sum(&[first, self.command, a, b, c, d])
     }
 }
 
-// The sum of the latest bytes.
+// The sum of the latest bytes. The proof of an iterator chain here did not close: what a fold over the range, or over the bytes of both
+// numbers, adds up.
 #[tactic(auto, using(crate::proofs::Totals::checksum_next), unfolding(block::specs::Block::sum))]
 fn total(tail: Tail, count: usize) -> u8
     ensures { result ≡ checksum (take count (recent tail)) }

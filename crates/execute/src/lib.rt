@@ -21,7 +21,7 @@ enum Fault {
 }
 
 impl Fault {
-    fn why(self) -> u8
+    fn byte(self) -> u8
         ensures { result ≡ why_of self }
     {
         self as u8

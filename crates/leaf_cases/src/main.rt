@@ -44,9 +44,5 @@ fn next(rt: &impl Print, input: &mut impl Read) -> Option<()> {
 
 fn main(rt: HostRuntime) {
     let mut input = rt.stdin();
-    for _ in 0..MOST {
-        if next(&rt, &mut input).is_none() {
-            return;
-        }
-    }
+    let _ = (0..MOST).try_for_each(|_| next(&rt, &mut input));
 }
