@@ -28,9 +28,9 @@ pub fn read<R: Read>(
     ensures in_bounds { IfOk result (λ count. count ≤ length space.new) }
     ensures bytes { IfOk result (λ count. Consumes (R.remaining input.old) (R.remaining input.new) (take count space.new)) }
     ensures all { IfOk result (λ count. count < length space.new → IsAtEnd (R.remaining input.new)) }
-    ensures argument { result ≡ Err (Failure.Argument usage.entry) → (space.new ≡ space.old) × (input.new ≡ input.old) }
+    ensures argument { IfErr result (λ failure. failure ≢ Failure.Read
+        → (failure ≡ Failure.Argument usage.entry) × (space.new ≡ space.old) × (input.new ≡ input.old)) }
     ensures lost { IfErr result (λ _. (bytes : List ℕ) × Consumes (R.remaining input.old) (R.remaining input.new) bytes) }
-    ensures unwritten { IfErr result (λ failure. failure ≢ Failure.Write) }
 {
     if !matches!(rt.arg(1, &mut [0]), Err(FillError::NotPresent)) {
         return Err(Failure::Argument(usage));
