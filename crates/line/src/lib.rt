@@ -19,6 +19,7 @@ pub struct Received {
 }
 
 // Overrun, flag 20, is in no word: the hardware tells it.
+#[tactic(auto, using(crate::proofs::Parity::ones_masked, crate::proofs::Parity::stop_masked))]
 fn flags_of(word: u32) -> u8
     ensures { result ≡ line_flags word }
 {

@@ -6,7 +6,7 @@ use native.Mathlib.Decide.{dec_lt}
 use native.Mathlib.Nat.{mod-lt, zero-add}
 use native.Mathlib.Omega.{arith}
 use lib.Bits.{bit_or}
-use lib.ListN.{length, take, get_or, length-append, get_or-append}
+use lib.ListN.{length, take, get_or, length-append, get_or-append, get_or-eq_default}
 use lib.Seq.{take_all, take-take, length-take-le, get_or-take, ext_get_or}
 use Rattle.packed.specs.declared.Tail.{Tail}
 use Rattle.packed.specs.Numbers.{low_first, low_bytes}
@@ -138,3 +138,6 @@ module _ (n : ℕ) (t : Tail) where
       let l = b ∷ recent t in
       let e = kept_full l (h, recent-are-bytes t) (omega (arith, length-recent t)) in
       ap (λ (x : List ℕ). backward (take (suc n) x)) e ∙ ap backward (take-take (suc n) 16 l (omega arith))
+
+-- the byte at a place
+pub ruleset places = (length-recent, at_low, at_high, get_or-eq_default)

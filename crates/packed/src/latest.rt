@@ -13,6 +13,7 @@ impl Tail {
     }
 
     // A byte comes.
+    #[tactic(auto, using(crate::proofs::Tails::pushed))]
     pub fn push(self, byte: u8) -> Tail
         ensures { result ≡ kept (byte ∷ recent self) }
     {
@@ -23,6 +24,7 @@ impl Tail {
     }
 
     // The byte that came so many bytes before the latest, 0 past the last that is kept.
+    #[tactic(auto, using(crate::proofs::Tails::places))]
     pub fn at(self, back: usize) -> u8
         ensures { result ≡ get_or (recent self) back 0 }
     {

@@ -23,6 +23,7 @@ pub struct Tail {
 }
 
 // The byte at a place.
+#[tactic(auto, using(crate::proofs::Numbers::masks))]
 fn byte_of(number: u64, at: usize) -> u8
     requires { at < 8 }
     ensures { result ≡ get_or (low_bytes 8 number) at 0 }
@@ -53,6 +54,7 @@ impl Packed {
     }
 
     // The first byte.
+    #[tactic(auto, using(crate::proofs::Numbers::masks), unfolding(crate::specs::Numbers::low_bytes))]
     pub fn first(self) -> u8
         ensures { result ≡ get_or (unpacked self) 0 0 }
     {
@@ -60,6 +62,7 @@ impl Packed {
     }
 
     // The bytes behind the first.
+    #[tactic(auto, using(crate::proofs::Packing::shifted))]
     pub fn rest(self) -> Packed
         ensures { result ≡ packed (drop 1 (unpacked self)) }
     {
