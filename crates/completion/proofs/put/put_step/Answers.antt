@@ -19,13 +19,13 @@ pub returns-in_err-put_answer-clause-puts : goal.returns-in_err-put_answer-claus
 returns-in_err-put_answer-clause-puts c =
     let h = rw c.in_ok-answer.was at c.hand.ensures in
     let all = seen-all (omega arith) (follows_is c.requires) h in
-    refused c.in_err-put_answer.was _ (rw all at c.put_answer.ensures)
+    rw (← all) (refused c.in_err-put_answer.was _ c.put_answer.ensures)
 
 pub returns-clause-puts : goal.returns-clause-puts
 returns-clause-puts c =
     let h = rw c.in_ok-answer.was at c.hand.ensures in
     let all = seen-all (omega arith) (follows_is c.requires) h in
-    taken c.in_ok-put_answer.was (rw all at c.put_answer.ensures)
+    rw (← all) (taken c.in_ok-put_answer.was c.put_answer.ensures)
 
 pub returns-clause-deck : goal.returns-clause-deck
 returns-clause-deck c =
