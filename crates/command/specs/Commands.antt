@@ -1,19 +1,13 @@
 -- Document 01, "Commands": the list. Codes as first byte and command byte.
-use Rattle.std.specs.Prelude.{Bool, true, false, cond, ◌&&◌, List, [], ◌∷◌, ℕ, eqb, pos, negsuc}
+use Rattle.std.specs.Prelude.{true, false, cond, ◌&&◌, List, [], ◌∷◌, Option, Some, None, ℕ, eqb, pos, negsuc}
 use Rattle.command.specs.declared.Command.{Command}
 use Rattle.command.specs.declared.ReplyKind.{ReplyKind}
-use Rattle.command.specs.declared.ReplyKind.TheVariants.{Undefined, Ack, Device, PointTime, TapeTime, Status}
+use Rattle.command.specs.declared.ReplyKind.TheVariants.{Ack, Device, PointTime, TapeTime, Status}
+use Rattle.command.specs.declared.Direction.TheVariants.{Forward, Reverse}
 use Rattle.command.specs.declared.Effect.TheVariants.{Local, Standby, Transport, Take, Preset, Shift, Flag}
 use Rattle.command.specs.declared.Motion.TheVariants.{Run, Vary, Step, Cue, Eject}
 use Rattle.settings.specs.declared.Mode.TheVariants.{Stop, Play, Record, FastForward, Rewind, Jog, Variable, Shuttle}
 use Rattle.settings.specs.declared.Which.TheVariants.{In, Out}
-
--- directions, of speeds, steps and shifts
-abbrev pub forward : Bool
-forward = false
-
-abbrev pub reverse : Bool
-reverse = true
 
 abbrev pub row : ℕ → ℕ → ReplyKind → Command
 row f c k = record { first = f; command = c; kind = k }
@@ -36,15 +30,15 @@ commands =
     ∷ row 0x20 0x05 (Ack (Standby true))
     ∷ row 0x20 0x0F (Ack (Transport Eject))
     -- "21.11, 21.12, 21.13 jog, variable, shuttle forward; 21.21, 21.22, 21.23 the same in reverse, with speed byte N."
-    ∷ row 0x21 0x11 (Ack (Transport (Vary Jog forward)))
-    ∷ row 0x21 0x12 (Ack (Transport (Vary Variable forward)))
-    ∷ row 0x21 0x13 (Ack (Transport (Vary Shuttle forward)))
-    ∷ row 0x21 0x21 (Ack (Transport (Vary Jog reverse)))
-    ∷ row 0x21 0x22 (Ack (Transport (Vary Variable reverse)))
-    ∷ row 0x21 0x23 (Ack (Transport (Vary Shuttle reverse)))
+    ∷ row 0x21 0x11 (Ack (Transport (Vary Jog Forward)))
+    ∷ row 0x21 0x12 (Ack (Transport (Vary Variable Forward)))
+    ∷ row 0x21 0x13 (Ack (Transport (Vary Shuttle Forward)))
+    ∷ row 0x21 0x21 (Ack (Transport (Vary Jog Reverse)))
+    ∷ row 0x21 0x22 (Ack (Transport (Vary Variable Reverse)))
+    ∷ row 0x21 0x23 (Ack (Transport (Vary Shuttle Reverse)))
     -- "20.14, 20.24 one frame on, one back"
-    ∷ row 0x20 0x14 (Ack (Transport (Step forward)))
-    ∷ row 0x20 0x24 (Ack (Transport (Step reverse)))
+    ∷ row 0x20 0x14 (Ack (Transport (Step Forward)))
+    ∷ row 0x20 0x24 (Ack (Transport (Step Reverse)))
     -- "24.31 cue"
     ∷ row 0x24 0x31 (Ack (Transport Cue))
     -- "40.10, 40.11 In, Out become the position and their flag goes on; 44.14, 44.15 the same from a time given."
@@ -53,10 +47,10 @@ commands =
     ∷ row 0x44 0x14 (Ack (Preset In))
     ∷ row 0x44 0x15 (Ack (Preset Out))
     -- "40.18, 40.19 In one frame on, back; 40.1A, 40.1B Out."
-    ∷ row 0x40 0x18 (Ack (Shift In forward))
-    ∷ row 0x40 0x19 (Ack (Shift In reverse))
-    ∷ row 0x40 0x1A (Ack (Shift Out forward))
-    ∷ row 0x40 0x1B (Ack (Shift Out reverse))
+    ∷ row 0x40 0x18 (Ack (Shift In Forward))
+    ∷ row 0x40 0x19 (Ack (Shift In Reverse))
+    ∷ row 0x40 0x1A (Ack (Shift Out Forward))
+    ∷ row 0x40 0x1B (Ack (Shift Out Reverse))
     -- "40.20, 40.21 In, Out flag off; 40.24, 40.25 on."
     ∷ row 0x40 0x20 (Ack (Flag In false))
     ∷ row 0x40 0x21 (Ack (Flag Out false))
@@ -71,10 +65,6 @@ commands =
     ∷ []
 
 -- "Every other code or count is undefined."
-unfoldable pub lookup : List Command → ℕ → ℕ → ReplyKind
-lookup [] first command = Undefined
-lookup (c ∷ cs) first command = cond (eqb c.first first && eqb c.command command) c.kind (lookup cs first command)
-
--- what stands past the end of the list
-abbrev pub no_command : Command
-no_command = row 0 0 Undefined
+unfoldable pub lookup : List Command → ℕ → ℕ → Option ReplyKind
+lookup [] first command = None
+lookup (c ∷ cs) first command = cond (eqb c.first first && eqb c.command command) (Some c.kind) (lookup cs first command)

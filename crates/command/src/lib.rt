@@ -1,46 +1,47 @@
 // The listed commands, and the decoder that searches them.
 #![tactic(auto)]
 
-ghost use Rattle.std.specs.Prelude.{◌≡◌, ◌+◌, ◌*◌, ◌<◌, get_or};
-ghost use Rattle.command.specs.Commands.{commands, lookup, no_command};
+ghost use Rattle.std.specs.Prelude.{◌≡◌};
+ghost use Rattle.command.specs.Commands.{commands, lookup};
 
 use settings::{Mode, Which};
 
-// What the motion commands and eject do. The flags of `Vary` and `Step` say reverse.
-#[derive(Clone, Copy)]
+#[derive(Clone, Copy, Debug, PartialEq, Eq)]
+pub enum Direction {
+    Forward,
+    Reverse,
+}
+
+// What the motion commands and eject do.
+#[derive(Clone, Copy, Debug, PartialEq, Eq)]
 pub enum Motion {
     Run(Mode, i32),
-    Vary(Mode, bool),
-    Step(bool),
+    Vary(Mode, Direction),
+    Step(Direction),
     Cue,
     Eject,
 }
 
-// What the acknowledged commands do. The flag of `Shift` says reverse.
-#[derive(Clone, Copy)]
+// What the acknowledged commands do.
+#[derive(Clone, Copy, Debug, PartialEq, Eq)]
 pub enum Effect {
     Local(bool),
     Standby(bool),
     Transport(Motion),
     Take(Which),
     Preset(Which),
-    Shift(Which, bool),
+    Shift(Which, Direction),
     Flag(Which, bool),
 }
 
-#[derive(Clone, Copy)]
+#[derive(Clone, Copy, Debug, PartialEq, Eq)]
 pub enum ReplyKind {
-    Undefined,
     Ack(Effect),
     Device,
     PointTime(Which),
     TapeTime,
     Status,
 }
-
-const FORWARD: bool = false;
-
-const REVERSE: bool = true;
 
 // The first byte has the exact count of data bytes in its low four bits.
 #[derive(Clone, Copy)]
@@ -50,9 +51,7 @@ struct Command {
     kind: ReplyKind,
 }
 
-const ROWS: usize = 36;
-
-const COMMANDS: [Command; ROWS] = [
+static COMMANDS: [Command; 36] = [
     Command {
         first: 0x00,
         command: 0x0C,
@@ -111,42 +110,42 @@ const COMMANDS: [Command; ROWS] = [
     Command {
         first: 0x21,
         command: 0x11,
-        kind: ReplyKind::Ack(Effect::Transport(Motion::Vary(Mode::Jog, FORWARD))),
+        kind: ReplyKind::Ack(Effect::Transport(Motion::Vary(Mode::Jog, Direction::Forward))),
     },
     Command {
         first: 0x21,
         command: 0x12,
-        kind: ReplyKind::Ack(Effect::Transport(Motion::Vary(Mode::Variable, FORWARD))),
+        kind: ReplyKind::Ack(Effect::Transport(Motion::Vary(Mode::Variable, Direction::Forward))),
     },
     Command {
         first: 0x21,
         command: 0x13,
-        kind: ReplyKind::Ack(Effect::Transport(Motion::Vary(Mode::Shuttle, FORWARD))),
+        kind: ReplyKind::Ack(Effect::Transport(Motion::Vary(Mode::Shuttle, Direction::Forward))),
     },
     Command {
         first: 0x21,
         command: 0x21,
-        kind: ReplyKind::Ack(Effect::Transport(Motion::Vary(Mode::Jog, REVERSE))),
+        kind: ReplyKind::Ack(Effect::Transport(Motion::Vary(Mode::Jog, Direction::Reverse))),
     },
     Command {
         first: 0x21,
         command: 0x22,
-        kind: ReplyKind::Ack(Effect::Transport(Motion::Vary(Mode::Variable, REVERSE))),
+        kind: ReplyKind::Ack(Effect::Transport(Motion::Vary(Mode::Variable, Direction::Reverse))),
     },
     Command {
         first: 0x21,
         command: 0x23,
-        kind: ReplyKind::Ack(Effect::Transport(Motion::Vary(Mode::Shuttle, REVERSE))),
+        kind: ReplyKind::Ack(Effect::Transport(Motion::Vary(Mode::Shuttle, Direction::Reverse))),
     },
     Command {
         first: 0x20,
         command: 0x14,
-        kind: ReplyKind::Ack(Effect::Transport(Motion::Step(FORWARD))),
+        kind: ReplyKind::Ack(Effect::Transport(Motion::Step(Direction::Forward))),
     },
     Command {
         first: 0x20,
         command: 0x24,
-        kind: ReplyKind::Ack(Effect::Transport(Motion::Step(REVERSE))),
+        kind: ReplyKind::Ack(Effect::Transport(Motion::Step(Direction::Reverse))),
     },
     Command {
         first: 0x24,
@@ -176,22 +175,22 @@ const COMMANDS: [Command; ROWS] = [
     Command {
         first: 0x40,
         command: 0x18,
-        kind: ReplyKind::Ack(Effect::Shift(Which::In, FORWARD)),
+        kind: ReplyKind::Ack(Effect::Shift(Which::In, Direction::Forward)),
     },
     Command {
         first: 0x40,
         command: 0x19,
-        kind: ReplyKind::Ack(Effect::Shift(Which::In, REVERSE)),
+        kind: ReplyKind::Ack(Effect::Shift(Which::In, Direction::Reverse)),
     },
     Command {
         first: 0x40,
         command: 0x1A,
-        kind: ReplyKind::Ack(Effect::Shift(Which::Out, FORWARD)),
+        kind: ReplyKind::Ack(Effect::Shift(Which::Out, Direction::Forward)),
     },
     Command {
         first: 0x40,
         command: 0x1B,
-        kind: ReplyKind::Ack(Effect::Shift(Which::Out, REVERSE)),
+        kind: ReplyKind::Ack(Effect::Shift(Which::Out, Direction::Reverse)),
     },
     Command {
         first: 0x40,
@@ -235,55 +234,22 @@ const COMMANDS: [Command; ROWS] = [
     },
 ];
 
-// The one function that names the table: the prover reads the whole of it in each that does.
-fn rows() -> [Command; ROWS]
-    ensures { result ≡ commands }
+// The one function that names the table: the prover reads the whole of it in each that does. A static is not built at each call, as a
+// const is: so the search is unrolled, and becomes one switch on the two bytes.
+#[tactic(auto, unfolding(crate::specs::Commands::commands))]
+fn rows() -> &'static [Command; 36]
+    ensures { result.now ≡ commands }
 {
-    COMMANDS
+    &COMMANDS
 }
 
-// The two bytes as one number.
-fn code(first: u8, command: u8) -> u32
-    ensures { result ≡ first * 256 + command }
-{
-    first as u32 * 256 + command as u32
-}
-
-const THIRD: usize = ROWS / 3;
-
-const TWO_THIRDS: usize = THIRD * 2;
-
-// The table is fetched once: the compiled code builds it wherever it is named. Loops of twelve rows are unrolled, so that it need not
-// be built at all: each row is known, and the search is one switch on the code.
-pub fn find(first: u8, command: u8) -> ReplyKind
+pub fn find(first: u8, command: u8) -> Option<ReplyKind>
     ensures { result ≡ lookup commands first command }
 {
-    let wanted = code(first, command);
-    let table = rows();
-    let mut i: usize = 0;
-    while i < THIRD {
-        let c = table[i];
-        if code(c.first, c.command) == wanted {
-            let kind = c.kind;
-            return kind;
+    for row in rows() {
+        if row.first == first && row.command == command {
+            return Some(row.kind);
         }
-        i += 1;
     }
-    while i < TWO_THIRDS {
-        let c = table[i];
-        if code(c.first, c.command) == wanted {
-            let kind = c.kind;
-            return kind;
-        }
-        i += 1;
-    }
-    while i < ROWS {
-        let c = table[i];
-        if code(c.first, c.command) == wanted {
-            let kind = c.kind;
-            return kind;
-        }
-        i += 1;
-    }
-    ReplyKind::Undefined
+    None
 }

@@ -5,45 +5,28 @@
 #![tactic(auto)]
 
 mod show;
-mod take;
 
 use std::io::Read;
 
 // No input is so long: the bound is there for the loop to end.
 const MOST: u32 = 1000000;
 
-// Reads as many bytes as `space` has, and has them completed.
-fn read_and_complete(rt: &impl Print, input: &mut impl Read, space: &mut [u8], out: &mut [u8]) {
-    let count = streams::read_full(input, space).count;
-    let written = completion::complete(&space[..count], out);
-    show::written(rt, written, out);
-}
-
-// Takes one case, and answers false where the input has no more.
-fn next(rt: &impl Print, input: &mut impl Read) -> bool {
-    let mut head = [0u8; 8];
-    if streams::read_full(input, &mut head).count < 8 {
-        return false;
-    }
-    let size = take::four(&head);
-    let room = take::four(take::rest(&head, 4));
+// Takes one case, or none where the input has no more.
+fn next(rt: &impl Print, input: &mut impl Read) -> Option<()> {
+    let size = u32::from_le_bytes(streams::read_array(input)?) as usize;
+    let room = u32::from_le_bytes(streams::read_array(input)?) as usize;
     // Room for a record and an output that are larger than the largest.
-    let mut space = [0u8; 65552];
+    let mut space = [0; 65552];
     let mut out = [show::BLANK; 458768];
-    read_and_complete(
-        rt,
-        input,
-        take::last(&mut space, size),
-        take::last(&mut out, room),
-    );
-    true
+    let bytes = &mut space[..size.min(65552)];
+    let out = &mut out[..room.min(458768)];
+    let count = streams::read_full(input, bytes).unwrap_or_else(|cut| cut.count);
+    let written = completion::complete(&bytes[..count], out);
+    let _ = show::written(rt, written, out);
+    Some(())
 }
 
 fn main(rt: HostRuntime) {
     let mut input = rt.stdin();
-    for _ in 0..MOST {
-        if !next(&rt, &mut input) {
-            return;
-        }
-    }
+    let _ = (0..MOST).try_for_each(|_| next(&rt, &mut input));
 }

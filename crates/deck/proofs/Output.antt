@@ -1,14 +1,17 @@
 -- What the replies leave in an output with room for them, and a reply behind another.
 use Prim.Native.Nat.{ℕ, ◌+◌, ◌-◌, ◌≤◌}
-use mathlib.Core.Path.{◌≡◌, refl}
+use mathlib.Core.Path.{◌≡◌, refl, ap, ◌∙◌}
+use Rattle.std.proofs.Common.{Result, Ok, Err}
 use mathlib.Core.List.{List, [], ◌++◌, append-nil, ◌∷◌}
 use native.Mathlib.Omega.{arith}
 use borrow.Author.Tests.{le-ltb}
 use borrow.Rule.Slice.PartMut.{mid_of, put_mid}
 use lib.ListN.{length, take, drop, length-drop, drop_of_length-le}
 use lib.Seq.{take_all, take_at, drop_at, drop-drop}
+use Rattle.refusal.specs.declared.Refusal.{Refusal}
+use Rattle.refusal.proofs.Numbers.{refuses}
 use Rattle.block.proofs.Writing.{fits-writes, answer-written, output-written}
-use Rattle.block.specs.Write.{write_no, written, written_out}
+use Rattle.block.specs.Write.{Written, write_no, written_by, written, written_out}
 use Rattle.settings.specs.declared.Settings.{Settings}
 use Rattle.execute.specs.Execute.{execute, executed, executed_out, shown, shown_out}
 use Rattle.execute.specs.Replies.{nak}
@@ -18,15 +21,19 @@ module _ (why : ℕ) (out : List ℕ) (room : 4 ≤ length out) where
   fits : write_no 0x1 (why ∷ []) out ≡ 0
   fits = fits-writes 0x1 (why ∷ []) out (record { small = omega arith; few = omega arith; room = omega arith })
 
-  pub nak-answer : written 0x1 (why ∷ []) out ≡ record { no = 0; len = 4 }
-  nak-answer = answer-written 0x1 (why ∷ []) out 4 refl fits
+  pub nak-answer : (r : Result ℕ Refusal) → written_by r ≡ written 0x1 (why ∷ []) out → r ≡ Ok 4
+  nak-answer r e = by r (e ∙ answer-written 0x1 (why ∷ []) out 4 refl fits)
+    where
+      by : (r : Result ℕ Refusal) → written_by r ≡ record { no = 0; len = 4 } → r ≡ Ok 4
+      by (Ok n) e = ap (λ (w : Written). Ok w.len) e
+      by (Err x) e = absurd (refuses x (ap (λ (w : Written). w.no) e))
 
   pub nak-output : written_out 0x1 0x12 (why ∷ []) out ≡ nak why ++ drop 4 out
   nak-output = output-written 0x1 (why ∷ []) out 0x12 fits
 
 -- the reply to a full block
 module _ (s : Settings) (block out : List ℕ) (room : 18 ≤ length out) where
-  pub executed-shown : executed s block out ≡ shown (execute s block)
+  pub executed-shown : executed s block out ≡ Ok (shown (execute s block))
   unfolding executed
   executed-shown = rw (le-ltb (length out) 18 room)
 

@@ -7,6 +7,7 @@ ghost use Rattle.deck.specs.Calls.{view, Made, Admitted, Comes};
 ghost use Rattle.deck.specs.Joins.{grown};
 
 use super::{Answer, Deck, Sent};
+use execute::FullBlock;
 use packed::Tail;
 
 const TIME_OUT: u8 = 0x80;
@@ -60,7 +61,7 @@ impl Deck {
         requires { (due < 2 ^ 63) × (18 ≤ length out.old) }
         ensures { Comes self (voided (view self) why due) out.old result out.new }
     {
-        let len = execute::nak(why, out).len;
+        let len = execute::nak(why, out).unwrap();
         Answer {
             deck: self.void(why, due),
             first: Some(Sent { len, due }),
@@ -110,8 +111,13 @@ impl Deck {
         ensures { Comes self (replied (view self) time (execute self.settings ((view self).block ++ content ∷ [])))
             out.old result out.new }
     {
-        let first = (self.first % 256) as u8;
-        let done = execute::execute(self.settings, first, self.tail, self.held - 1, content, out);
+        let block = FullBlock {
+            first: (self.first % 256) as u8,
+            tail: self.tail,
+            count: self.held - 1,
+            last: content,
+        };
+        let done = execute::execute(self.settings, block, out).unwrap();
         self.held = 0;
         self.first = 0;
         self.tail = Tail::none();
@@ -166,7 +172,7 @@ impl Deck {
             return answer;
         }
         if flags != 0 {
-            let len = execute::nak(flags, &mut out[4..]).len;
+            let len = execute::nak(flags, &mut out[4..]).unwrap();
             return Answer {
                 deck: deck.void(flags, time),
                 second: Some(Sent { len, due: time }),

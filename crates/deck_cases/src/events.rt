@@ -1,51 +1,45 @@
-// The four events.
-use crate::{show, take};
+// The four events. Each lends an output of `room` bytes, prints what is answered and hands on the deck.
+use crate::show;
 use deck::{Answer, Deck};
+use refusal::Refusal;
+use std::array;
 
-// The arguments of a byte are its flags and its content, those of a position the place in four bytes.
-fn hand(deck: Deck, letter: u8, time: u64, args: &[u8], out: &mut [u8]) -> Answer {
-    match letter {
-        b'b' => deck.byte(time, take::byte(args, 1), take::byte(args, 0), out),
-        b'l' => deck.look(time, out),
-        b'p' => deck.position(time, take::four(args), out),
-        _ => deck.cassette(time, out),
-    }
-}
-
-fn hand_and_print(
+fn event<F: FnOnce(&mut [u8]) -> Result<Answer, Refusal>>(
     rt: &impl Print,
     deck: Deck,
-    letter: u8,
-    time: u64,
-    args: &[u8],
-    out: &mut [u8],
-) -> Deck {
-    let answer = hand(deck, letter, time, args, out);
-    show::answer(rt, answer, out);
-    answer.deck
-}
-
-// Lends an output of `room` bytes.
-pub(super) fn event(
-    rt: &impl Print,
-    deck: Deck,
-    letter: u8,
     room: u8,
-    time: u64,
-    args: &[u8],
-) -> Deck {
+    hand: F,
+) -> Deck
+    requires { F.IsAlwaysCallable hand }
+{
     let mut space = [show::FILL; 64];
-    hand_and_print(rt, deck, letter, time, args, take::last(&mut space, room))
+    let out = &mut space[..usize::from(room).min(64)];
+    let answer = hand(out);
+    let _ = show::answer(rt, answer, out);
+    answer.map_or(deck, |answer| answer.deck)
 }
 
 // A run of bytes. The arguments have four bytes for each: in two by how much it is later than the one before, its flags, its content.
-pub(super) fn bytes(rt: &impl Print, deck: Deck, room: u8, time: u64, args: &[u8]) -> Deck {
-    let mut d = deck;
-    let mut t = time;
-    for i in 0..args.len() / 4 {
-        let one = take::rest(args, i * 4);
-        t = t.wrapping_add(u64::from(take::two(one)));
-        d = event(rt, d, b'b', room, t, take::rest(one, 2));
+pub(super) fn bytes(rt: &impl Print, mut deck: Deck, room: u8, mut time: u64, args: &[u8]) -> Deck {
+    let (each, _) = args.as_chunks::<4>();
+    for &[low, high, flags, content] in each {
+        time = time.wrapping_add(u64::from(u16::from_le_bytes([low, high])));
+        deck = event(rt, deck, room, |out| deck.byte(time, content, flags, out));
     }
-    d
+    deck
+}
+
+pub(super) fn look(rt: &impl Print, deck: Deck, room: u8, time: u64) -> Deck {
+    event(rt, deck, room, |out| deck.look(time, out))
+}
+
+// The arguments are the place in four bytes, 0 where they are missing.
+pub(super) fn position(rt: &impl Print, deck: Deck, room: u8, time: u64, args: &[u8]) -> Deck {
+    let place = array::from_fn(|at| args.get(at).copied().unwrap_or(0));
+    let place = u32::from_le_bytes(place);
+    event(rt, deck, room, |out| deck.position(time, place, out))
+}
+
+pub(super) fn cassette(rt: &impl Print, deck: Deck, room: u8, time: u64) -> Deck {
+    event(rt, deck, room, |out| deck.cassette(time, out))
 }

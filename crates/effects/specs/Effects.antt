@@ -2,6 +2,8 @@
 use Rattle.std.specs.Prelude.{Bool, true, false, cond, List, ℕ, eqb, ℤ, pos, get_or}
 use Rattle.speed.specs.Speed.{speed_of, signed}
 use Rattle.timecode.specs.Time.{read_time, frame_on, frame_back}
+use Rattle.command.specs.declared.Direction.{Direction}
+use Rattle.command.specs.declared.Direction.TheVariants.{Forward, Reverse}
 use Rattle.command.specs.declared.Effect.{Effect}
 use Rattle.command.specs.declared.Effect.TheVariants.{Local, Standby, Transport, Take, Preset, Shift, Flag}
 use Rattle.settings.specs.declared.Mode.{Mode}
@@ -12,9 +14,13 @@ use Rattle.settings.specs.declared.Settings.{Settings}
 use Rattle.settings.specs.Settings.{point, point_of, with_local, with_standby, with_cued, with_position, with_motion, with_cassette, with_point}
 
 -- one frame on or back; "steps and shifts go round at midnight"
-abbrev pub shifted : Bool → ℕ → ℕ
-shifted true p = (frame_back p).position
-shifted false p = (frame_on p).position
+abbrev pub shifted : Direction → ℕ → ℕ
+shifted Reverse p = (frame_back p).position
+shifted Forward p = (frame_on p).position
+
+abbrev pub is_reverse : Direction → Bool
+is_reverse Forward = false
+is_reverse Reverse = true
 
 -- the time given, as a position
 abbrev pub given : List ℕ → ℕ
@@ -32,7 +38,7 @@ moving m v s = with_cued false (with_motion m v s)
 unfoldable pub transport : Motion → Settings → List ℕ → Settings
 transport (Run m v) s bytes = moving m v s
 -- "jog, variable, shuttle .., with speed byte N"
-transport (Vary m way) s bytes = moving m (signed way (speed_of (get_or bytes 0 0))) s
+transport (Vary m way) s bytes = moving m (signed (is_reverse way) (speed_of (get_or bytes 0 0))) s
 -- "one frame on, one back; mode jog, speed 0"
 transport (Step way) s bytes = with_position (shifted way s.position) (moving Jog (pos 0) s)
 -- "cue: the position becomes the time given; mode stop; cue-done on"; "Stop has speed 0."

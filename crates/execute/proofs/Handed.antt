@@ -11,7 +11,6 @@ use Rattle.settings.specs.declared.Settings.{Settings}
 use Rattle.command.specs.Commands.{commands, lookup}
 use Rattle.command.proofs.Listed.{unlisted-long}
 use Rattle.execute.specs.Replies.{refused, undefined, bad_checksum}
-use Rattle.execute.specs.Body.{command_in, data_in}
 use Rattle.execute.specs.Execute.{carry, execute, block_in}
 use Rattle.execute.proofs.Carried.{execute-read}
 use Rattle.execute.proofs.Faults.{bad-checksum, not_listed}
@@ -64,20 +63,19 @@ read_short s first command last middle bytes four same zero =
     ∙ ap (carry (lookup commands first command) s) (parts-data first command part last reads)
     ∙ listed-data s bytes four first command)
 
-module _ (s : Settings) (first count : ℕ) (t : Tail) (last body : ℕ) (small : count ≤ 5) (sized : count ≡ first % 16 + 1)
-    (same : latest count t ≡ command_in body ∷ take (count - 1) (data_in body))
-    (sums : checksum (latest count t) ≡ checksum (command_in body ∷ data_in body)) where
-  summed : checksum (first ∷ latest count t) ≡ checksum (first ∷ command_in body ∷ data_in body)
-  summed = sum-behind first (latest count t) (command_in body ∷ data_in body) sums
+module _ (s : Settings) (first count : ℕ) (t : Tail) (last command : ℕ) (bytes : List ℕ) (four : length bytes ≡ 4)
+    (small : count ≤ 5) (sized : count ≡ first % 16 + 1) (same : latest count t ≡ command ∷ take (count - 1) bytes)
+    (sums : checksum (latest count t) ≡ checksum (command ∷ bytes)) where
+  summed : checksum (first ∷ latest count t) ≡ checksum (first ∷ command ∷ bytes)
+  summed = sum-behind first (latest count t) (command ∷ bytes) sums
 
-  pub short-bad : (checksum (first ∷ command_in body ∷ data_in body) ≡ last → ⊥)
-      → execute s (block_in first count t last) ≡ refused s bad_checksum
+  pub short-bad : (checksum (first ∷ command ∷ bytes) ≡ last → ⊥) → execute s (block_in first count t last) ≡ refused s bad_checksum
   short-bad n = bad-checksum s (block_in first count t last) (λ e. n (sym summed ∙ parts-sum first (latest count t) last e))
 
-  pub short-read : checksum (first ∷ command_in body ∷ data_in body) ≡ last
-      → execute s (block_in first count t last) ≡ carry (lookup commands first (command_in body)) s (data_in body)
+  pub short-read : checksum (first ∷ command ∷ bytes) ≡ last
+      → execute s (block_in first count t last) ≡ carry (lookup commands first command) s bytes
   short-read e =
       let less : count - 1 ≡ first % 16 = omega (arith, sized) in
-      read_short s first (command_in body) last (latest count t) (data_in body) (omega arith)
-      (same ∙ ap (λ (n : ℕ). command_in body ∷ take n (data_in body)) less)
+      read_short s first command last (latest count t) bytes four
+      (same ∙ ap (λ (n : ℕ). command ∷ take n bytes) less)
       (parts-read first (latest count t) last (length-latest count t (omega (arith, small)) ∙ sized) (summed ∙ e))

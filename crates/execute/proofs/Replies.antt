@@ -1,5 +1,5 @@
 -- Every reply is a block: 3 to 18 bytes, each a byte, and it reads.
-use Rattle.std.proofs.Common.{◌≡◌, ℕ, ◌<◌, ◌≤◌, Bool, true, false, cond, eqb, List, [], ◌∷◌, length, get_or, take, sym, refl, ap, ◌∙◌, subst, arith, length-take}
+use Rattle.std.proofs.Common.{Option, Some, None, ◌≡◌, ℕ, ◌<◌, ◌≤◌, Bool, true, false, cond, eqb, List, [], ◌∷◌, length, get_or, take, sym, refl, ap, ◌∙◌, subst, arith, length-take}
 use Rattle.packed.proofs.Bytes.{Bytes, by_place, front, joined}
 use Rattle.block.specs.Block.{first_byte, checksum, body, block_of}
 use Rattle.block.specs.Read.{read_no, read_data}
@@ -14,7 +14,7 @@ use Rattle.settings.specs.Settings.{point_of}
 use Rattle.settings.specs.Status.{status_bytes}
 use Rattle.settings.proofs.StatusBytes.{status-length, status-lt}
 use Rattle.command.specs.declared.ReplyKind.{ReplyKind}
-use Rattle.command.specs.declared.ReplyKind.TheVariants.{Undefined, Ack, Device, PointTime, TapeTime, Status}
+use Rattle.command.specs.declared.ReplyKind.TheVariants.{Ack, Device, PointTime, TapeTime, Status}
 use Rattle.command.specs.Commands.{commands, lookup}
 use Rattle.effects.specs.Effects.{perform, fits}
 use Rattle.execute.specs.Replies.{Outcome, answered, acknowledged, refused, undefined, bad_checksum}
@@ -91,13 +91,13 @@ time-code : (t : Bool) → cond t 0x06 0x04 < 256
 time-code true = omega arith
 time-code false = omega arith
 
-pub carry-replies : (k : ReplyKind) (s : Settings) (bytes : List ℕ) → IsReply (carry k s bytes).bytes
+pub carry-replies : (k : Option ReplyKind) (s : Settings) (bytes : List ℕ) → IsReply (carry k s bytes).bytes
 unfolding carry
-carry-replies Undefined s bytes = a-nak s undefined (omega arith)
-carry-replies (Ack e) s bytes =
+carry-replies None s bytes = a-nak s undefined (omega arith)
+carry-replies (Some (Ack e)) s bytes =
     either (fits e bytes) (acknowledged (perform e s bytes)) (refused s undefined)
     (λ _. an-ack (perform e s bytes)) (a-nak s undefined (omega arith))
-carry-replies Device s bytes =
+carry-replies (Some Device) s bytes =
     record {
       group = 1;
       command = 0x11;
@@ -108,12 +108,12 @@ carry-replies Device s bytes =
       few = omega arith;
       each = (omega arith, (omega arith, tt));
     }
-carry-replies (PointTime w) s bytes = a-time s (point_code w) (point_of w s).at (point-code w)
-carry-replies TapeTime s bytes =
+carry-replies (Some (PointTime w)) s bytes = a-time s (point_code w) (point_of w s).at (point-code w)
+carry-replies (Some TapeTime) s bytes =
     let n = get_or bytes 0 0 in
     either (within 1 4 n) (answered s 0x7 (time_code n) (write_time s.position).bytes) (refused s undefined)
     (λ _. a-time s (time_code n) s.position (time-code (eqb n 2))) (a-nak s undefined (omega arith))
-carry-replies Status s bytes =
+carry-replies (Some Status) s bytes =
     let n = get_or bytes 0 0 in
     either (within 1 13 n) (answered s 0x7 0x20 (take n (status_bytes s))) (refused s undefined)
     (λ h. record {

@@ -1,17 +1,17 @@
 -- The latest bytes of a tail, shifted up: the command byte highest, zeros below the data.
-use Rattle.std.proofs.Common.{◌≡◌, ℕ, zero, suc, ◌+◌, ◌-◌, ◌*◌, ◌/◌, ◌%◌, ◌^◌, ◌<◌, ◌≤◌}
+use Rattle.std.proofs.Common.{◌≡◌, ℕ, zero, suc, ◌+◌, ◌-◌, ◌*◌, ◌/◌, ◌%◌, ◌^◌, ◌≤◌}
 use Rattle.std.proofs.Common.{List, [], ◌∷◌, ◌++◌, length, take, drop, replicate, sym, refl, ap}
-use Rattle.std.proofs.Common.{◌∙◌, append_assoc, append-nil, mod-lt, mul_assoc, suc-add, pow-suc, zero-add, mul-one, arith, take_all, take_at}
+use Rattle.std.proofs.Common.{◌∙◌, append_assoc, append-nil, mul_assoc, suc-add, pow-suc, zero-add, mul-one, arith, take_all, take_at}
 use lib.Seq.{take-append-le}
+use Rattle.std.specs.Int.{byte_at}
 use Rattle.packed.specs.declared.Tail.{Tail}
 use Rattle.packed.specs.Numbers.{low_first, low_bytes}
 use Rattle.packed.specs.Tail.{backward, latest}
 use Rattle.packed.proofs.Numbers.{length-low, low-are-bytes, bytes_back, low-at, low-take, low-cut}
 use Rattle.packed.proofs.Tails.{length-latest}
-use Rattle.packed.proofs.Units.{unit-is, unit-pos}
+use Rattle.packed.proofs.Units.{unit-is}
 use Rattle.block.specs.Block.{sum, checksum}
 use Rattle.block.proofs.Sums.{sum-append}
-use Rattle.execute.specs.Body.{command_in, data_in}
 use Rattle.execute.proofs.Totals.{sum-backward}
 
 -- so many bytes of a number are those of its remainder
@@ -37,18 +37,20 @@ backward-append : (xs ys : List ℕ) → backward (xs ++ ys) ≡ backward ys ++ 
 backward-append [] ys = sym (append-nil (backward ys))
 backward-append (x ∷ xs) ys = rw (backward-append xs ys) (append_assoc (backward ys) (backward xs) (x ∷ []))
 
--- the five highest bytes of a number of eight
-highest : (r : ℕ) → r < 256 ^ 8 → backward (drop 3 (low_bytes 8 r)) ≡ command_in r ∷ data_in r
+-- the bytes behind the highest of a number of eight, as `to_be_bytes` gives them
+abbrev pub data_in : ℕ → List ℕ
+data_in n = byte_at 6 n ∷ byte_at 5 n ∷ byte_at 4 n ∷ byte_at 3 n ∷ []
+
+-- the five highest bytes
+highest : (r : ℕ) → backward (drop 3 (low_bytes 8 r)) ≡ byte_at 7 r ∷ data_in r
 unfolding low_bytes
-highest r h =
-    let top : r / 256 ^ 7 % 256 ≡ r / 256 ^ 7 = omega arith in
+highest r =
     rw (
       low-at 8 r 7 (omega arith),
       low-at 8 r 6 (omega arith),
       low-at 8 r 5 (omega arith),
       low-at 8 r 4 (omega arith),
       low-at 8 r 3 (omega arith),
-      top,
     )
 
 sum_zeros : (i : ℕ) → sum (replicate i 0) ≡ 0
@@ -81,22 +83,22 @@ module _ (t : Tail) (k : ℕ) (most : k ≤ 5) where
       ∙ ap (λ (n : ℕ). drop 3 (replicate n 0 ++ low_bytes k t.low)) above
 
   -- the bytes that came, and zeros behind them
-  with-zeros : latest k t ++ backward zeros ≡ command_in body ∷ data_in body
+  with-zeros : latest k t ++ backward zeros ≡ byte_at 7 body ∷ data_in body
   with-zeros =
       ap (λ (l : List ℕ). l ++ backward zeros) of_low
       ∙ sym (backward-append zeros (low_bytes k t.low))
       ∙ ap backward (sym low-body)
-      ∙ highest body (mod-lt (t.low * 2 ^ ((8 - k) * 8)) (unit-pos 8))
+      ∙ highest body
 
-  pub body-front : 1 ≤ k → latest k t ≡ command_in body ∷ take (k - 1) (data_in body)
+  pub body-front : 1 ≤ k → latest k t ≡ byte_at 7 body ∷ take (k - 1) (data_in body)
   body-front least =
       let e : k ≡ suc (k - 1) = omega arith in
       sym (take_at (latest k t) (backward zeros) k (length-latest k t (omega arith)))
       ∙ ap (take k) with-zeros
-      ∙ ap (λ (n : ℕ). take n (command_in body ∷ data_in body)) e
+      ∙ ap (λ (n : ℕ). take n (byte_at 7 body ∷ data_in body)) e
 
   zeros-add-nothing : sum (latest k t ++ backward zeros) ≡ sum (latest k t)
   zeros-add-nothing = sum-append (latest k t) (backward zeros) ∙ omega (arith, sum-backward zeros, sum_zeros (5 - k))
 
-  pub body-sum : checksum (latest k t) ≡ checksum (command_in body ∷ data_in body)
+  pub body-sum : checksum (latest k t) ≡ checksum (byte_at 7 body ∷ data_in body)
   body-sum = ap (λ (s : ℕ). s % 256) (sym zeros-add-nothing ∙ ap sum with-zeros)

@@ -1,5 +1,5 @@
 -- The sum of the latest bytes, one by one and in either order.
-use Rattle.std.proofs.Common.{◌≡◌, ℕ, zero, suc, ◌+◌, ◌%◌, List, [], ◌∷◌, get_or, take, refl, ap, arith}
+use Rattle.std.proofs.Common.{◌≡◌, ℕ, zero, suc, ◌+◌, ◌%◌, List, [], ◌∷◌, get_or, take, refl, ap, add-one, arith}
 use Rattle.packed.specs.declared.Tail.{Tail}
 use Rattle.packed.specs.Tail.{recent, backward, latest}
 use Rattle.block.specs.Block.{sum, checksum}
@@ -13,8 +13,8 @@ sum-next [] (suc i) = refl
 sum-next (b ∷ l) zero = omega arith
 sum-next (b ∷ l) (suc i) = omega (arith, sum-next l i)
 
-pub checksum-next : (l : List ℕ) (i : ℕ) → checksum (take (suc i) l) ≡ (checksum (take i l) + get_or l i 0) % 256
-checksum-next l i = omega (arith, sum-next l i)
+pub checksum_next : (l : List ℕ) (i : ℕ) → checksum (take (i + 1) l) ≡ (checksum (take i l) + get_or l i 0) % 256
+checksum_next l i = rw add-one (omega (arith, sum-next l i))
 
 -- a list and its backward have one sum
 pub sum-backward : (l : List ℕ) → sum (backward l) ≡ sum l

@@ -1,4 +1,3 @@
 -- What the contracts of `execute` mean.
 pub mod Replies
 pub mod Execute
-pub mod Body

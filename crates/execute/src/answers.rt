@@ -1,65 +1,51 @@
 // Replies: each is a block at the front of the output.
-ghost use Rattle.std.specs.Prelude.{◌≡◌, ◌≤◌, [], length};
-ghost use Rattle.execute.specs.Replies.{answered, refused};
-ghost use Rattle.execute.specs.Body.{data_in};
-ghost use Rattle.execute.specs.Execute.{point_code, carry, shown, shown_out};
+#![tactic(auto, unfolding(crate::specs::Execute::carry))]
 
-use super::{Executed, UNDEFINED};
+ghost use Rattle.std.specs.Prelude.{◌≡◌, ◌≤◌, [], length, Some};
+ghost use Rattle.execute.specs.Replies.{answered, refused};
+ghost use Rattle.execute.specs.Execute.{point_code, why_of, carry, shown, shown_out};
+
+use super::{Executed, Fault};
 use command::{Effect, ReplyKind};
 use effects::{perform, takes};
 use settings::{Settings, Which};
 
 // A reply that is no NAK.
-fn answer(s: Settings, group: u8, command: u8, data: &[u8], out: &mut [u8]) -> Executed
+fn answer(settings: Settings, group: u8, command: u8, data: &[u8], out: &mut [u8]) -> Executed
     requires { (group ≤ 15) × (length «data».now ≤ 15) × (18 ≤ length out.old) }
-    ensures answer { result ≡ shown (answered s group command «data».now) }
-    ensures output { out.new ≡ shown_out (answered s group command «data».now) out.old }
+    ensures answer { result ≡ shown (answered settings group command «data».now) }
+    ensures output { out.new ≡ shown_out (answered settings group command «data».now) out.old }
 {
-    let w = block::write(group, command, data, out);
     Executed {
-        no: 0,
-        settings: s,
-        len: w.len,
+        settings,
+        len: block::write(group, command, data, out).unwrap(),
         quiets: false,
     }
 }
 
-pub(super) fn refuse(s: Settings, why: u8, out: &mut [u8]) -> Executed
+pub(super) fn refuse(settings: Settings, fault: Fault, out: &mut [u8]) -> Executed
     requires { 18 ≤ length out.old }
-    ensures answer { result ≡ shown (refused s why) }
-    ensures output { out.new ≡ shown_out (refused s why) out.old }
+    ensures answer { result ≡ shown (refused settings (why_of fault)) }
+    ensures output { out.new ≡ shown_out (refused settings (why_of fault)) out.old }
 {
-    let w = super::nak(why, out);
+    let why = fault.byte();
     Executed {
-        no: 0,
-        settings: s,
-        len: w.len,
+        settings,
+        len: super::nak(why, out).unwrap(),
         quiets: super::opens_quiet(why),
     }
 }
 
-// The four bytes behind the command byte.
-fn data(body: u64) -> [u8; 4]
-    ensures { result ≡ data_in body }
-{
-    [
-        (body / 281474976710656 % 256) as u8,
-        (body / 1099511627776 % 256) as u8,
-        (body / 4294967296 % 256) as u8,
-        (body / 16777216 % 256) as u8,
-    ]
-}
-
-fn acknowledge(effect: Effect, s: Settings, body: u64, out: &mut [u8]) -> Executed
+fn acknowledge(effect: Effect, settings: Settings, data: [u8; 4], out: &mut [u8]) -> Executed
     requires { 18 ≤ length out.old }
-    ensures answer { result ≡ shown (carry (ReplyKind.Ack effect) s (data_in body)) }
-    ensures output { out.new ≡ shown_out (carry (ReplyKind.Ack effect) s (data_in body)) out.old }
+    ensures answer { result ≡ shown (carry (Some (ReplyKind.Ack effect)) settings «data») }
+    ensures output { out.new ≡ shown_out (carry (Some (ReplyKind.Ack effect)) settings «data») out.old }
 {
-    let data = data(body);
     if takes(effect, &data) {
-        return answer(perform(effect, s, &data), 0x1, 0x01, &[], out);
+        answer(perform(effect, settings, &data), 0x1, 0x01, &[], out)
+    } else {
+        refuse(settings, Fault::Undefined, out)
     }
-    refuse(s, UNDEFINED, out)
 }
 
 fn point_code(which: Which) -> u8
@@ -71,57 +57,60 @@ fn point_code(which: Which) -> u8
     }
 }
 
-fn point_time(which: Which, s: Settings, out: &mut [u8]) -> Executed
+fn point_time(which: Which, settings: Settings, out: &mut [u8]) -> Executed
     requires { 18 ≤ length out.old }
-    ensures answer { result ≡ shown (carry (ReplyKind.PointTime which) s []) }
-    ensures output { out.new ≡ shown_out (carry (ReplyKind.PointTime which) s []) out.old }
+    ensures answer { result ≡ shown (carry (Some (ReplyKind.PointTime which)) settings []) }
+    ensures output { out.new ≡ shown_out (carry (Some (ReplyKind.PointTime which)) settings []) out.old }
 {
-    let point = s.point(which);
-    let time = timecode::time(point.at);
-    answer(s, 0x7, point_code(which), &time.bytes, out)
+    let time = timecode::time(settings.point(which).at).unwrap_or([0; 4]);
+    answer(settings, 0x7, point_code(which), &time, out)
 }
 
-fn tape_time(s: Settings, body: u64, out: &mut [u8]) -> Executed
+fn tape_time(settings: Settings, data: [u8; 4], out: &mut [u8]) -> Executed
     requires { 18 ≤ length out.old }
-    ensures answer { result ≡ shown (carry ReplyKind.TapeTime s (data_in body)) }
-    ensures output { out.new ≡ shown_out (carry ReplyKind.TapeTime s (data_in body)) out.old }
+    ensures answer { result ≡ shown (carry (Some ReplyKind.TapeTime) settings «data») }
+    ensures output { out.new ≡ shown_out (carry (Some ReplyKind.TapeTime) settings «data») out.old }
 {
-    let data = data(body);
-    let n = data[0];
-    if n < 1 || 4 < n {
-        return refuse(s, UNDEFINED, out);
+    let code = match data[0] {
+        1 | 3 | 4 => 0x04,
+        2 => 0x06,
+        _ => return refuse(settings, Fault::Undefined, out),
+    };
+    let time = timecode::time(settings.position).unwrap_or([0; 4]);
+    answer(settings, 0x7, code, &time, out)
+}
+
+fn status(settings: Settings, data: [u8; 4], out: &mut [u8]) -> Executed
+    requires { 18 ≤ length out.old }
+    ensures answer { result ≡ shown (carry (Some ReplyKind.Status) settings «data») }
+    ensures output { out.new ≡ shown_out (carry (Some ReplyKind.Status) settings «data») out.old }
+{
+    match data[0] {
+        count @ 1..=13 => {
+            let bytes = settings.status();
+            answer(settings, 0x7, 0x20, &bytes[..usize::from(count)], out)
+        }
+        _ => refuse(settings, Fault::Undefined, out),
     }
-    let time = timecode::time(s.position);
-    let code = if n == 2 { 0x06 } else { 0x04 };
-    answer(s, 0x7, code, &time.bytes, out)
 }
 
-fn status(s: Settings, body: u64, out: &mut [u8]) -> Executed
+// A command of the list with its data, or none.
+pub(super) fn carry(
+    kind: Option<ReplyKind>,
+    settings: Settings,
+    data: [u8; 4],
+    out: &mut [u8],
+) -> Executed
     requires { 18 ≤ length out.old }
-    ensures answer { result ≡ shown (carry ReplyKind.Status s (data_in body)) }
-    ensures output { out.new ≡ shown_out (carry ReplyKind.Status s (data_in body)) out.old }
-{
-    let data = data(body);
-    let n = data[0];
-    if n < 1 || 13 < n {
-        return refuse(s, UNDEFINED, out);
-    }
-    let bytes = s.status();
-    let count = n as usize;
-    answer(s, 0x7, 0x20, &bytes[..count], out)
-}
-
-pub(super) fn carry(kind: ReplyKind, s: Settings, body: u64, out: &mut [u8]) -> Executed
-    requires { 18 ≤ length out.old }
-    ensures answer { result ≡ shown (carry kind s (data_in body)) }
-    ensures output { out.new ≡ shown_out (carry kind s (data_in body)) out.old }
+    ensures answer { result ≡ shown (carry kind settings «data») }
+    ensures output { out.new ≡ shown_out (carry kind settings «data») out.old }
 {
     match kind {
-        ReplyKind::Undefined => refuse(s, UNDEFINED, out),
-        ReplyKind::Ack(effect) => acknowledge(effect, s, body, out),
-        ReplyKind::Device => answer(s, 0x1, 0x11, &[0x00, 0x02], out),
-        ReplyKind::PointTime(which) => point_time(which, s, out),
-        ReplyKind::TapeTime => tape_time(s, body, out),
-        ReplyKind::Status => status(s, body, out),
+        None => refuse(settings, Fault::Undefined, out),
+        Some(ReplyKind::Ack(effect)) => acknowledge(effect, settings, data, out),
+        Some(ReplyKind::Device) => answer(settings, 0x1, 0x11, &[0x00, 0x02], out),
+        Some(ReplyKind::PointTime(which)) => point_time(which, settings, out),
+        Some(ReplyKind::TapeTime) => tape_time(settings, data, out),
+        Some(ReplyKind::Status) => status(settings, data, out),
     }
 }

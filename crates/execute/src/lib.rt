@@ -2,35 +2,54 @@
 #![tactic(auto)]
 
 ghost use Rattle.std.specs.Prelude.{◌≡◌, [], ◌∷◌};
-ghost use Rattle.block.specs.Write.{written, written_out};
+ghost use Rattle.block.specs.Write.{written_by, written, written_out};
 ghost use Rattle.execute.specs.Replies.{opens_quiet};
-ghost use Rattle.execute.specs.Execute.{block_in, executed, executed_out};
+ghost use Rattle.execute.specs.Execute.{why_of, block_in, executed, executed_out};
 
 use packed::Tail;
+use refusal::Refusal;
 use settings::Settings;
 
 mod answers;
-mod short;
+mod full;
 
-const ROOM: u8 = 1;
+// Why a full block gets a NAK: the byte that says so.
+#[derive(Clone, Copy, Debug, PartialEq, Eq)]
+enum Fault {
+    Undefined = 0x01,
+    Checksum = 0x04,
+}
 
-const BAD_CHECKSUM: u8 = 0x04;
-
-const UNDEFINED: u8 = 0x01;
+impl Fault {
+    fn byte(self) -> u8
+        ensures { result ≡ why_of self }
+    {
+        self as u8
+    }
+}
 
 // No listed command has more data than four bytes: with the command byte, five.
 const LISTED: usize = 5;
 
-// The number, the settings, the length of the reply, and whether it opens a quiet.
+// A full block in parts: its first byte, the latest `count` bytes of `tail`, and its last byte.
 #[derive(Clone, Copy)]
+pub struct FullBlock {
+    pub first: u8,
+    pub tail: Tail,
+    pub count: usize,
+    pub last: u8,
+}
+
+// The settings, the length of the reply, and whether it opens a quiet.
+#[derive(Clone, Copy, Debug, PartialEq, Eq)]
 pub struct Executed {
-    pub no: u8,
     pub settings: Settings,
     pub len: usize,
     pub quiets: bool,
 }
 
 // Whether the NAK with this byte opens a quiet: each does.
+#[tactic(auto, unfolding(crate::specs::Replies::opens_quiet))]
 pub fn opens_quiet(_why: u8) -> bool
     ensures { result ≡ opens_quiet _why }
 {
@@ -38,40 +57,27 @@ pub fn opens_quiet(_why: u8) -> bool
 }
 
 // The NAK with this byte, at the front of the output.
-pub fn nak(why: u8, out: &mut [u8]) -> block::Written
-    ensures { (result ≡ written 0x1 (why ∷ []) out.old) × (out.new ≡ written_out 0x1 0x12 (why ∷ []) out.old) }
+pub fn nak(why: u8, out: &mut [u8]) -> Result<usize, Refusal>
+    ensures { (written_by result ≡ written 0x1 (why ∷ []) out.old) × (out.new ≡ written_out 0x1 0x12 (why ∷ []) out.old) }
 {
     block::write(0x1, 0x12, &[why], out)
 }
 
-// What a full block does to the settings, with the reply at the front of the output. The block is handed over in parts: its first
-// byte, the latest `count` bytes of `tail`, and its last byte.
-pub fn execute(
-    settings: Settings,
-    first: u8,
-    tail: Tail,
-    count: usize,
-    last: u8,
-    out: &mut [u8],
-) -> Executed
-    ensures answer { result ≡ executed settings (block_in first count tail last) out.old }
-    ensures output { out.new ≡ executed_out settings (block_in first count tail last) out.old }
+// What a full block does to the settings, with the reply at the front of the output.
+pub fn execute(settings: Settings, block: FullBlock, out: &mut [u8]) -> Result<Executed, Refusal>
+    ensures answer { result ≡ executed settings (block_in block.first block.count block.tail block.last) out.old }
+    ensures output { out.new ≡ executed_out settings (block_in block.first block.count block.tail block.last) out.old }
 {
     if out.len() < 18 {
-        return Executed {
-            no: ROOM,
-            settings: settings,
-            len: 0,
-            quiets: false,
-        };
+        return Err(Refusal::Room);
     }
-    if LISTED < count || count != (first & 15) as usize + 1 {
-        return answers::refuse(settings, short::why(first, tail, count, last), out);
+    if LISTED < block.count || block.count != usize::from(block.first & 15) + 1 {
+        return Ok(answers::refuse(settings, block.fault(), out));
     }
-    let body = short::body(tail, count);
-    if short::sum(first, body) != last {
-        return answers::refuse(settings, BAD_CHECKSUM, out);
+    let short = block.short();
+    if short.sum(block.first) != block.last {
+        return Ok(answers::refuse(settings, Fault::Checksum, out));
     }
-    let kind = command::find(first, short::command(body));
-    answers::carry(kind, settings, body, out)
+    let kind = command::find(block.first, short.command);
+    Ok(answers::carry(kind, settings, short.data, out))
 }

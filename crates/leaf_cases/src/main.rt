@@ -11,12 +11,13 @@ mod speed_cases;
 mod take;
 mod timecode_cases;
 
+use std::io;
 use std::io::Read;
 
 // No input is so long: the bound is there for the loop to end.
 const MOST: u32 = 1000000;
 
-fn call(rt: &impl Print, letter: u8, args: &[u8]) {
+fn call(rt: &impl Print, letter: u8, args: &[u8]) -> io::Result<()> {
     match letter {
         b'l' => line_cases::receive(rt, args),
         b's' => block_cases::sum(rt, args),
@@ -27,33 +28,21 @@ fn call(rt: &impl Print, letter: u8, args: &[u8]) {
         b'n' => timecode_cases::frame_on(rt, args),
         b'k' => timecode_cases::frame_back(rt, args),
         b'v' => speed_cases::speed(rt, args),
-        _ => show::text(rt, b"unknown"),
+        _ => println!(rt; "unknown"),
     }
-    show::text(rt, b"\n");
 }
 
-// Reads as many argument bytes as `space` has, and makes the call.
-fn read_call(rt: &impl Print, input: &mut impl Read, letter: u8, space: &mut [u8]) {
-    let count = streams::read_full(input, space).count;
-    call(rt, letter, &space[..count]);
-}
-
-// Takes one case, and answers false where the input has no more.
-fn next(rt: &impl Print, input: &mut impl Read) -> bool {
-    let mut head = [0u8; 2];
-    if streams::read_full(input, &mut head).count < 2 {
-        return false;
-    }
-    let mut space = [0u8; 255];
-    read_call(rt, input, head[0], take::last(&mut space, head[1]));
-    true
+// Takes one case, or none where the input has no more.
+fn next(rt: &impl Print, input: &mut impl Read) -> Option<()> {
+    let [letter, size] = streams::read_array::<_, 2>(input)?;
+    let mut space = [0; 255];
+    let args = &mut space[..usize::from(size)];
+    let count = streams::read_full(input, args).unwrap_or_else(|cut| cut.count);
+    let _ = call(rt, letter, &args[..count]);
+    Some(())
 }
 
 fn main(rt: HostRuntime) {
     let mut input = rt.stdin();
-    for _ in 0..MOST {
-        if !next(&rt, &mut input) {
-            return;
-        }
-    }
+    let _ = (0..MOST).try_for_each(|_| next(&rt, &mut input));
 }

@@ -1,55 +1,25 @@
-// Printing on standard output. Each value stands behind a space.
-pub(super) fn text(rt: &impl Print, letters: &[u8]) {
-    let _ = rt.write_all(letters);
-}
+// How bytes and answers are printed.
+use refusal::Refusal;
+use std::fmt;
 
-pub(super) fn digits(rt: &impl Print, n: u64) {
-    let _ = rt.print(n);
-}
+// Bytes in hexadecimal.
+#[derive(Clone, Copy)]
+pub(super) struct Bytes<'a>(pub &'a [u8]);
 
-pub(super) fn number(rt: &impl Print, n: u64) {
-    text(rt, b" ");
-    digits(rt, n);
-}
-
-// A byte in decimal.
-pub(super) fn small(rt: &impl Print, b: u8) {
-    number(rt, u64::from(b));
-}
-
-// A word in hexadecimal, in three digits or more.
-pub(super) fn word(rt: &impl Print, n: u32) {
-    let _ = print!(rt; " {n:03x}");
-}
-
-// A byte in hexadecimal.
-pub(super) fn byte(rt: &impl Print, b: u8) {
-    let _ = print!(rt; " {b:02x}");
-}
-
-pub(super) fn bytes(rt: &impl Print, list: &[u8]) {
-    text(rt, b" [");
-    for b in list {
-        byte(rt, *b);
+impl fmt::Display for Bytes<'_> {
+    fn fmt<W: fmt::Write>(&self, f: &mut fmt::Formatter<W>) -> fmt::Result {
+        f.write_str("[")?;
+        for byte in self.0 {
+            write!(f, " {byte:02x}")?;
+        }
+        f.write_str(" ]")
     }
-    text(rt, b" ]");
 }
 
-// Stands between a call and what it returned.
-pub(super) fn gives(rt: &impl Print) {
-    text(rt, b" ->");
-}
-
-// A call whose one argument is a list of bytes.
-pub(super) fn call_bytes(rt: &impl Print, name: &[u8], args: &[u8]) {
-    text(rt, name);
-    bytes(rt, args);
-    gives(rt);
-}
-
-// A call whose one argument is a number.
-pub(super) fn call_number(rt: &impl Print, name: &[u8], n: u32) {
-    text(rt, name);
-    number(rt, u64::from(n));
-    gives(rt);
+// An answer as document 01 has it: a number, 0 where nothing is refused, and a value, here `none` where something is.
+pub(super) fn told<T: Drop>(answer: Result<T, Refusal>, none: T) -> (u8, T) {
+    match answer {
+        Ok(value) => (0, value),
+        Err(refusal) => (refusal.number(), none),
+    }
 }

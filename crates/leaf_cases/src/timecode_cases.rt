@@ -1,33 +1,27 @@
 // Calls of the crate `timecode`.
-use crate::{show, take};
+use crate::show::{Bytes, told};
+use crate::take;
+use std::io;
 
-pub(super) fn position(rt: &impl Print, args: &[u8]) {
-    show::call_bytes(rt, b"position", args);
-    placed(rt, timecode::position(args));
+pub(super) fn position(rt: &impl Print, args: &[u8]) -> io::Result<()> {
+    let (no, place) = told(timecode::position(args), 0);
+    println!(rt; "position {} -> {no} {place}", Bytes(args))
 }
 
-pub(super) fn time(rt: &impl Print, args: &[u8]) {
+pub(super) fn time(rt: &impl Print, args: &[u8]) -> io::Result<()> {
     let place = take::number(args);
-    show::call_number(rt, b"time", place);
-    let r = timecode::time(place);
-    show::small(rt, r.no);
-    let bytes = r.bytes;
-    show::bytes(rt, &bytes);
+    let (no, time) = told(timecode::time(place), [0; 4]);
+    println!(rt; "time {place} -> {no} {}", Bytes(&time))
 }
 
-pub(super) fn frame_on(rt: &impl Print, args: &[u8]) {
+pub(super) fn frame_on(rt: &impl Print, args: &[u8]) -> io::Result<()> {
     let place = take::number(args);
-    show::call_number(rt, b"frame_on", place);
-    placed(rt, timecode::frame_on(place));
+    let (no, next) = told(timecode::frame_on(place), 0);
+    println!(rt; "frame_on {place} -> {no} {next}")
 }
 
-pub(super) fn frame_back(rt: &impl Print, args: &[u8]) {
+pub(super) fn frame_back(rt: &impl Print, args: &[u8]) -> io::Result<()> {
     let place = take::number(args);
-    show::call_number(rt, b"frame_back", place);
-    placed(rt, timecode::frame_back(place));
-}
-
-fn placed(rt: &impl Print, r: timecode::Placed) {
-    show::small(rt, r.no);
-    show::number(rt, u64::from(r.position));
+    let (no, last) = told(timecode::frame_back(place), 0);
+    println!(rt; "frame_back {place} -> {no} {last}")
 }

@@ -6,6 +6,7 @@ ghost use Rattle.line.specs.Word.{heard_by, received, line_flags};
 
 use refusal::Refusal;
 
+// Flags are bits of one byte, and both may be set: an enum would be no plainer.
 const PARITY: u8 = 0x10;
 
 const FRAMING: u8 = 0x40;
@@ -18,6 +19,7 @@ pub struct Received {
 }
 
 // Overrun, flag 20, is in no word: the hardware tells it.
+#[tactic(auto, using(crate::proofs::Parity::ones_masked, crate::proofs::Parity::stop_masked))]
 fn flags_of(word: u32) -> u8
     ensures { result ≡ line_flags word }
 {

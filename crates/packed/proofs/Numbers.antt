@@ -5,11 +5,12 @@ use mathlib.Core.List.{List, [], ◌∷◌, ◌++◌}
 use native.Mathlib.Nat.{pow-suc, pow-succ', mul_assoc, div-div-eq-div-mul}
 use native.Mathlib.Omega.{arith}
 use lib.Arith.{mod-mul}
+use lib.Bits.{and_mask}
 use lib.ListN.{length, take, drop, get_or}
 use lib.Seq.{take-nil}
 use Rattle.packed.specs.Numbers.{low_first, low_bytes}
 use Rattle.packed.proofs.Bytes.{Bytes}
-use Rattle.packed.proofs.Units.{unit-pos}
+use Rattle.packed.proofs.Units.{unit-pos, masked}
 
 pub length-low : (k n : ℕ) → length (low_bytes k n) ≡ k
 unfolding low_bytes
@@ -108,3 +109,6 @@ low_step n (suc i) (x ∷ b) = low_step n i b
 pub low_part : (n i : ℕ) (b : List ℕ) → low_first (take n (drop i b)) ≡ low_first (window n i b)
 low_part zero i b = refl
 low_part (suc n) i b = low_step n i b ∙ ap (λ (v : ℕ). get_or b i 0 + 256 * v) (low_part n (suc i) b)
+
+-- a byte that is masked out of a number
+pub ruleset masks = (and_mask, masked, low-at)

@@ -3,14 +3,16 @@ use Prim.Native.Nat.{ℕ, ◌+◌, ◌-◌, ◌*◌, ◌/◌, ◌%◌, ◌^◌, 
 use mathlib.Core.Path.{◌≡◌, refl, sym, ap, ◌∙◌, subst}
 use mathlib.Core.List.{List, [], ◌∷◌, ◌++◌}
 use native.Mathlib.Decide.{dec_lt}
-use native.Mathlib.Nat.{zero-add, mod-lt, mod-eq_of_lt}
+use native.Mathlib.Nat.{zero-add, mod-eq_of_lt}
 use native.Mathlib.Omega.{arith}
+use lib.Bits.{bit_or}
 use lib.ListN.{length, take, drop, get_or, get_or-append}
 use lib.Seq.{take_all, take-append-le, get_or-append-add, get_or-take, get_or-drop}
 use lib.Seq.{ext_get_or, length-take-le, take-take}
 use Rattle.packed.specs.declared.Packed.{Packed}
 use Rattle.packed.specs.Numbers.{low_first, low_bytes}
 use Rattle.packed.specs.Packed.{unpacked, packed}
+use Rattle.packed.proofs.Units.{down}
 use Rattle.packed.proofs.Bytes.{Bytes, front, behind, joined}
 use Rattle.packed.proofs.Numbers.{length-low, low-are-bytes, low-back, byte-back, low-take, low-with}
 
@@ -89,12 +91,6 @@ front_low k v m h = take-append-le k (low_bytes 8 v) m (rw length-low h) ∙ low
 lower : (v : ℕ) → v < 256 ^ 8 → v / 256 < 256 ^ 7
 lower v h = omega arith
 
-onto-lower : (a b : ℕ) → a < 256 ^ 7 → b < 256 → a + b * 256 ^ 7 < 256 ^ 8
-onto-lower a b h k = omega arith
-
-pub rest-fits : (v w : ℕ) → v < 256 ^ 8 → v / 256 + w % 256 * 256 ^ 7 < 256 ^ 8
-rest-fits v w h = onto-lower (v / 256) (w % 256) (lower v h) (mod-lt w (omega arith))
-
 -- the seven bytes behind the lowest, and one more
 rest_more : (v b : ℕ) → v < 256 ^ 8 → v / 256 + b * 256 ^ 7 ≡ low_first (low_bytes 7 (v / 256) ++ b ∷ [])
 rest_more v b h = sym (low-with 7 (v / 256) b ∙ ap (λ (x : ℕ). x + b * 256 ^ 7) (mod-eq_of_lt (lower v h)))
@@ -109,6 +105,16 @@ module _ (p : Packed) where
       let f = rest_more p.mid (p.high % 256) k in
       let g = sym (low-back 7 (p.high / 256) (lower p.high m)) in
       λ i. record { low = e i; mid = f i; high = g i }
+
+  -- by shifts, as the code has it
+  pub shifted : p.low < 256 ^ 8 → p.mid < 256 ^ 8 → p.high < 256 ^ 8
+      → record {
+        low = bit_or (p.low / 256) (p.mid * 256 ^ 7 % 256 ^ 8);
+        mid = bit_or (p.mid / 256) (p.high * 256 ^ 7 % 256 ^ 8);
+        high = p.high / 256;
+      }
+      ≡ packed (drop 1 (unpacked p))
+  shifted h k m = rw (down p.low p.mid h, down p.mid p.high k) (rest-is h k m)
 
   -- of the first n bytes, those behind the first
   pub rest-front : (n : ℕ) → n < 24 → take n (unpacked (packed (drop 1 (unpacked p)))) ≡ take n (drop 1 (unpacked p))

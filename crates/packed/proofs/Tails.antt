@@ -5,13 +5,15 @@ use mathlib.Core.List.{List, [], ◌∷◌, ◌++◌}
 use native.Mathlib.Decide.{dec_lt}
 use native.Mathlib.Nat.{mod-lt, zero-add}
 use native.Mathlib.Omega.{arith}
-use lib.ListN.{length, take, get_or, length-append, get_or-append}
+use lib.Bits.{bit_or}
+use lib.ListN.{length, take, get_or, length-append, get_or-append, get_or-eq_default}
 use lib.Seq.{take_all, take-take, length-take-le, get_or-take, ext_get_or}
 use Rattle.packed.specs.declared.Tail.{Tail}
 use Rattle.packed.specs.Numbers.{low_first, low_bytes}
 use Rattle.packed.specs.Tail.{recent, kept, backward, latest}
 use Rattle.packed.proofs.Bytes.{Bytes, front, joined}
 use Rattle.packed.proofs.Numbers.{length-low, low-are-bytes, low-at, low-cut, window, low_part}
+use Rattle.packed.proofs.Units.{up}
 use Rattle.packed.proofs.Packing.{at_next, part_at}
 
 -- ---- a byte comes
@@ -36,6 +38,15 @@ module _ (t : Tail) (b : ℕ) where
   pub push-high : t.low < 256 ^ 8 → t.high % 256 ^ 7 * 256 + t.low / 256 ^ 7 ≡ (kept (b ∷ recent t)).high
   unfolding low_bytes
   push-high h = let e = low-cut 7 t.high in let f = low-at 8 t.low 7 (omega arith) in omega (arith, e, f)
+
+  -- by shifts, as the code has it
+  pub pushed : b < 256 → t.low < 256 ^ 8
+      → record { low = bit_or (t.low * 256 % 256 ^ 8) b; high = bit_or (t.high * 256 % 256 ^ 8) (t.low / 256 ^ 7) }
+      ≡ kept (b ∷ recent t)
+  pushed h k =
+      let e = up t.low b h ∙ push-low in
+      let f = up t.high (t.low / 256 ^ 7) (top_byte t.low k) ∙ push-high k in
+      λ i. record { low = e i; high = f i }
 
 -- ---- the bytes that are kept
 
@@ -127,3 +138,6 @@ module _ (n : ℕ) (t : Tail) where
       let l = b ∷ recent t in
       let e = kept_full l (h, recent-are-bytes t) (omega (arith, length-recent t)) in
       ap (λ (x : List ℕ). backward (take (suc n) x)) e ∙ ap backward (take-take (suc n) 16 l (omega arith))
+
+-- the byte at a place
+pub ruleset places = (length-recent, at_low, at_high, get_or-eq_default)

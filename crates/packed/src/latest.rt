@@ -2,7 +2,7 @@
 ghost use Rattle.std.specs.Prelude.{◌≡◌, [], ◌∷◌, get_or};
 ghost use Rattle.packed.specs.Tail.{recent, kept};
 
-use super::{TOP, Tail};
+use super::Tail;
 
 impl Tail {
     // No byte has come.
@@ -13,25 +13,25 @@ impl Tail {
     }
 
     // A byte comes.
+    #[tactic(auto, using(crate::proofs::Tails::pushed))]
     pub fn push(self, byte: u8) -> Tail
         ensures { result ≡ kept (byte ∷ recent self) }
     {
         Tail {
-            low: self.low % TOP * 256 + byte as u64,
-            high: self.high % TOP * 256 + self.low / TOP,
+            low: self.low << 8 | u64::from(byte),
+            high: self.high << 8 | self.low >> 56,
         }
     }
 
     // The byte that came so many bytes before the latest, 0 past the last that is kept.
+    #[tactic(auto, using(crate::proofs::Tails::places))]
     pub fn at(self, back: usize) -> u8
         ensures { result ≡ get_or (recent self) back 0 }
     {
-        if back < 8 {
-            return super::byte_of(self.low, back);
+        match back {
+            0..8 => super::byte_of(self.low, back),
+            8..16 => super::byte_of(self.high, back - 8),
+            _ => 0,
         }
-        if back < 16 {
-            return super::byte_of(self.high, back - 8);
-        }
-        0
     }
 }

@@ -1,8 +1,8 @@
 // Bytes packed in numbers: the compiled code keeps these in registers, where it would copy an array from place to place.
 #![tactic(auto)]
 
-ghost use Rattle.std.specs.Prelude.{◌≡◌, [], ◌∷◌, ◌/◌, ◌<◌, ◌^◌, drop, get_or};
-ghost use Rattle.packed.specs.Numbers.{low_first, low_bytes};
+ghost use Rattle.std.specs.Prelude.{◌≡◌, [], ◌/◌, ◌<◌, drop, get_or};
+ghost use Rattle.packed.specs.Numbers.{low_bytes};
 ghost use Rattle.packed.specs.Packed.{unpacked, packed};
 
 mod latest;
@@ -22,36 +22,13 @@ pub struct Tail {
     pub high: u64,
 }
 
-// 256 to the power of 7: the place of the highest byte.
-const TOP: u64 = 72057594037927936;
-
-// 256 to this power.
-fn unit(at: usize) -> u64
-    requires { at < 8 }
-    ensures { result ≡ 256 ^ at }
-{
-    1u64 << (at * 8)
-}
-
 // The byte at a place.
+#[tactic(auto, using(crate::proofs::Numbers::masks))]
 fn byte_of(number: u64, at: usize) -> u8
     requires { at < 8 }
     ensures { result ≡ get_or (low_bytes 8 number) at 0 }
 {
-    (number / unit(at) % 256) as u8
-}
-
-fn four(a: u8, b: u8, c: u8, d: u8) -> u64
-    ensures { result ≡ low_first (a ∷ b ∷ c ∷ d ∷ []) }
-{
-    a as u64 + 256 * (b as u64 + 256 * (c as u64 + 256 * (d as u64)))
-}
-
-// The number of eight bytes.
-fn number(a: u8, b: u8, c: u8, d: u8, e: u8, f: u8, g: u8, h: u8) -> u64
-    ensures { result ≡ low_first (a ∷ b ∷ c ∷ d ∷ e ∷ f ∷ g ∷ h ∷ []) }
-{
-    four(a, b, c, d) + 4294967296 * four(e, f, g, h)
+    (number >> (at * 8) & 0xFF) as u8
 }
 
 impl Packed {
@@ -70,27 +47,29 @@ impl Packed {
         ensures { result ≡ packed b }
     {
         Packed {
-            low: number(b[0], b[1], b[2], b[3], b[4], b[5], b[6], b[7]),
-            mid: number(b[8], b[9], b[10], b[11], b[12], b[13], b[14], b[15]),
-            high: number(b[16], b[17], b[18], b[19], b[20], b[21], b[22], b[23]),
+            low: u64::from_le_bytes([b[0], b[1], b[2], b[3], b[4], b[5], b[6], b[7]]),
+            mid: u64::from_le_bytes([b[8], b[9], b[10], b[11], b[12], b[13], b[14], b[15]]),
+            high: u64::from_le_bytes([b[16], b[17], b[18], b[19], b[20], b[21], b[22], b[23]]),
         }
     }
 
     // The first byte.
+    #[tactic(auto, using(crate::proofs::Numbers::masks), unfolding(crate::specs::Numbers::low_bytes))]
     pub fn first(self) -> u8
         ensures { result ≡ get_or (unpacked self) 0 0 }
     {
-        (self.low % 256) as u8
+        (self.low & 0xFF) as u8
     }
 
     // The bytes behind the first.
+    #[tactic(auto, using(crate::proofs::Packing::shifted))]
     pub fn rest(self) -> Packed
         ensures { result ≡ packed (drop 1 (unpacked self)) }
     {
         Packed {
-            low: self.low / 256 + self.mid % 256 * TOP,
-            mid: self.mid / 256 + self.high % 256 * TOP,
-            high: self.high / 256,
+            low: self.low >> 8 | self.mid << 56,
+            mid: self.mid >> 8 | self.high << 56,
+            high: self.high >> 8,
         }
     }
 
@@ -99,9 +78,8 @@ impl Packed {
         ensures { result ≡ record { low = self.low / 256; mid = self.mid; high = self.high } }
     {
         Packed {
-            low: self.low / 256,
-            mid: self.mid,
-            high: self.high,
+            low: self.low >> 8,
+            ..self
         }
     }
 }

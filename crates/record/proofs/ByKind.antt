@@ -1,53 +1,45 @@
 -- The kinds of entries: which are meant, and what the deck is handed.
+use Rattle.std.specs.Prelude.{Option, Some, None, Ok, Err, ◌&&◌}
 use Prim.Native.Nat.{ℕ, zero, suc, ◌<◌}
-use mathlib.Core.Path.{◌≡◌, refl, sym, ap, ◌∙◌}
-use mathlib.Core.Bool.{true, false, ◌&&◌}
+use mathlib.Core.Path.{◌≡◌, refl}
+use mathlib.Core.Bool.{Bool, true, false}
 use borrow.Author.Tests.{ltb-true}
 use lib.Dec.{eqb, ltb}
-use Rattle.deck.specs.Line.{byte, look, position, cassette}
+use Rattle.refusal.specs.declared.Refusal.{Refusal}
 use Rattle.record.specs.declared.Entry.{Entry}
-use Rattle.record.specs.Entries.{handed_as, handed, meant}
+use Rattle.record.specs.declared.kind.Kind.{Kind}
+use Rattle.record.specs.declared.kind.Kind.TheVariants.{Controller, Deck, Position, Cassette}
+use Rattle.record.specs.Entries.{kind_of, kind_or_field, meant}
 
-module _ (e : Entry) where
-  pub meant-byte : e.kind ≡ 0 → meant e.kind e ≡ ltb e.content 256
-  unfolding meant
-  meant-byte p = ap (λ (k : ℕ). meant k e) p
+abbrev pub meant_as : Option Kind → Entry → Bool
+meant_as (Some Controller) e = ltb e.content 256
+meant_as (Some Deck) e = eqb e.flags 0 && ltb e.content 256
+meant_as (Some Position) e = eqb e.flags 0
+meant_as (Some Cassette) e = eqb e.flags 0 && eqb e.content 0
+meant_as None e = false
 
-  pub meant-look : e.kind ≡ 1 → meant e.kind e ≡ eqb e.flags 0 && ltb e.content 256
-  unfolding meant
-  meant-look p = ap (λ (k : ℕ). meant k e) p
+pub meant_by : (k : ℕ) (e : Entry) → meant k e ≡ meant_as (kind_of k) e
+unfolding meant
+meant_by zero e = refl
+meant_by (suc zero) e = refl
+meant_by (suc (suc zero)) e = refl
+meant_by (suc (suc (suc zero))) e = refl
+meant_by (suc (suc (suc (suc k)))) e = refl
 
-  pub meant-position : e.kind ≡ 2 → meant e.kind e ≡ eqb e.flags 0
-  unfolding meant
-  meant-position p = ap (λ (k : ℕ). meant k e) p
+-- what is handed as a byte is one
+pub byte_small : (n : ℕ) (e : Entry) → meant n e ≡ true → Ok Controller ≡ kind_or_field n → e.content < 256
+unfolding meant
+byte_small zero e m p = ltb-true e.content 256 m
+byte_small (suc zero) e m p = absurd (cc)
+byte_small (suc (suc zero)) e m p = absurd (cc)
+byte_small (suc (suc (suc zero))) e m p = absurd (cc)
+byte_small (suc (suc (suc (suc k)))) e m p = absurd (cc)
 
-  pub meant-cassette : e.kind ≡ 3 → meant e.kind e ≡ eqb e.flags 0 && eqb e.content 0
-  unfolding meant
-  meant-cassette p = ap (λ (k : ℕ). meant k e) p
-
-  pub meant-none : (k : ℕ) → (k ≡ 0 → ⊥) → (k ≡ 1 → ⊥) → (k ≡ 2 → ⊥) → (k ≡ 3 → ⊥) → meant k e ≡ false
-  unfolding meant
-  meant-none zero a b c d = absurd (a refl)
-  meant-none (suc zero) a b c d = absurd (b refl)
-  meant-none (suc (suc zero)) a b c d = absurd (c refl)
-  meant-none (suc (suc (suc zero))) a b c d = absurd (d refl)
-  meant-none (suc (suc (suc (suc k)))) a b c d = refl
-
-  -- what is handed as a byte is one
-  pub byte_small : meant e.kind e ≡ true → e.kind ≡ 0 → e.content < 256
-  byte_small m p = ltb-true e.content 256 (sym (meant-byte p) ∙ m)
-
-  pub handed-byte : e.kind ≡ 0 → handed e ≡ byte e.time e.content e.flags
-  handed-byte p = ap (λ (k : ℕ). handed_as k e) p
-
-  pub handed-look : e.kind ≡ 1 → handed e ≡ look e.time
-  handed-look p = ap (λ (k : ℕ). handed_as k e) p
-
-  pub handed-position : e.kind ≡ 2 → handed e ≡ position e.time e.content
-  handed-position p = ap (λ (k : ℕ). handed_as k e) p
-
-  pub handed-cassette : (k : ℕ) → (k ≡ 0 → ⊥) → (k ≡ 1 → ⊥) → (k ≡ 2 → ⊥) → handed_as k e ≡ cassette e.time
-  handed-cassette zero a b c = absurd (a refl)
-  handed-cassette (suc zero) a b c = absurd (b refl)
-  handed-cassette (suc (suc zero)) a b c = absurd (c refl)
-  handed-cassette (suc (suc (suc k))) a b c = refl
+-- what is meant is of a kind
+pub of_kind : (n : ℕ) (e : Entry) (why : Refusal) → meant n e ≡ true → Err why ≡ kind_or_field n → ⊥
+unfolding meant
+of_kind zero e why m p = cc
+of_kind (suc zero) e why m p = cc
+of_kind (suc (suc zero)) e why m p = cc
+of_kind (suc (suc (suc zero))) e why m p = cc
+of_kind (suc (suc (suc (suc k)))) e why m p = cc

@@ -2,9 +2,8 @@
 use Rattle.std.specs.Prelude.{Bool, true, false, ◌&&◌, List, [], ◌∷◌, ◌++◌, map, ◌≡◌, ℕ, zero, suc, ◌^◌, Option, Some, None, Result, ok_or, T, eqb, ltb}
 use Rattle.timecode.specs.Time.{day}
 use Rattle.deck.specs.declared.Deck.{Deck as Held}
-use Rattle.deck.specs.declared.Answer.{Answer as Returned}
 use Rattle.deck.specs.Line.{Event, byte, look, position, cassette, Deck, Reply, after, says}
-use Rattle.deck.specs.Calls.{flags_fit, told, Answers}
+use Rattle.deck.specs.Calls.{flags_fit, told, Returned, Answers}
 use Rattle.refusal.specs.declared.Refusal.{Refusal}
 use Rattle.refusal.specs.declared.Refusal.TheVariants.{Field}
 use Rattle.record.specs.declared.Entry.{Entry}

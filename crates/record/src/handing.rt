@@ -1,43 +1,38 @@
 // Handing an entry to the deck.
 ghost use Rattle.std.specs.Prelude.{◌≡◌};
+ghost use Rattle.deck.specs.Calls.{returned};
 ghost use Rattle.record.specs.Entries.{meant, Hands};
 
-use super::Entry;
-use deck::{Answer, Deck, Sent};
-
-const FIELD: u8 = 9;
+use super::{Entry, Kind};
+use deck::{Answer, Deck};
+use refusal::Refusal;
 
 // Whether the deck is handed the entry.
+#[tactic(auto, using(crate::proofs::ByKind::meant_by))]
 pub fn meant(e: Entry) -> bool
     ensures { result ≡ meant e.kind e }
 {
-    let kind = e.kind;
-    match kind {
-        0 => e.content < 256,
-        1 => e.flags == 0 && e.content < 256,
-        2 => e.flags == 0,
-        3 => e.flags == 0 && e.content == 0,
-        _ => false,
+    match e.kind() {
+        Some(Kind::Controller) => e.content < 256,
+        Some(Kind::Deck) => e.flags == 0 && e.content < 256,
+        Some(Kind::Position) => e.flags == 0,
+        Some(Kind::Cassette) => e.flags == 0 && e.content == 0,
+        None => false,
     }
 }
 
-// What the deck answers to the entry; 9 to one that is not meant. The kinds of an entry that is meant are 0 to 3.
-pub fn hand(deck: Deck, e: Entry, out: &mut [u8]) -> Answer
-    ensures { Hands deck e out.old result out.new }
+// What the deck answers to the entry, if it is meant for the deck.
+#[tactic(auto, using(crate::proofs::ByKind::byte_small, crate::proofs::ByKind::of_kind))]
+pub fn hand(deck: Deck, e: Entry, out: &mut [u8]) -> Result<Answer, Refusal>
+    ensures { Hands deck e out.old (returned deck result) out.new }
 {
     if !meant(e) {
-        return Answer {
-            no: FIELD,
-            deck: deck,
-            first: Sent { len: 0, due: 0 },
-            second: Sent { len: 0, due: 0 },
-        };
+        return Err(Refusal::Field);
     }
-    let kind = e.kind;
-    match kind {
-        0 => deck.byte(e.time, e.content as u8, e.flags, out),
-        1 => deck.look(e.time, out),
-        2 => deck.position(e.time, e.content, out),
-        _ => deck.cassette(e.time, out),
+    match Kind::try_from(e.kind)? {
+        Kind::Controller => deck.byte(e.time, e.content as u8, e.flags, out),
+        Kind::Deck => deck.look(e.time, out),
+        Kind::Position => deck.position(e.time, e.content, out),
+        Kind::Cassette => deck.cassette(e.time, out),
     }
 }

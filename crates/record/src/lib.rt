@@ -38,9 +38,9 @@ impl Entry {
         }
     }
 
-    // Of a time over six bytes the lowest six.
+    // Of a time over six bytes, the lowest six.
     #[tactic(auto, using(crate::proofs::Bytes::put_bytes))]
-    fn to_bytes(self) -> [u8; 12]
+    pub fn to_bytes(self) -> [u8; 12]
         ensures { result ≡ bytes_of self }
     {
         let [a, b, c, d] = self.content.to_le_bytes();

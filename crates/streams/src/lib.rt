@@ -1,7 +1,7 @@
 // Reading into a buffer that is lent.
 #![tactic(auto)]
 
-ghost use Rattle.std.specs.Prelude.{◌≡◌, ◌<◌, ◌≤◌, IfOk, length, take};
+ghost use Rattle.std.specs.Prelude.{◌≡◌, ℕ, ◌<◌, ◌≤◌, List, IfOk, IfSome, IfNone, length, take};
 ghost use Rattle.std.specs.Io.KnownBytes.{Consumes, IsAtEnd};
 ghost use Rattle.streams.specs.Came.{came};
 
@@ -28,4 +28,13 @@ pub fn read_full<R: Read>(input: &mut R, space: &mut [u8]) -> Result<usize, Cut>
         }
     }
     Ok(count)
+}
+
+// An array of the next bytes, or none where the input has too few.
+pub fn read_array<R: Read, const N: usize>(input: &mut R) -> Option<[u8; N]>
+    ensures whole { IfSome result (λ bytes. Consumes (R.remaining input.old) (R.remaining input.new) bytes) }
+    ensures short { IfNone result ((bytes : List ℕ) × (length bytes ≤ N) × Consumes (R.remaining input.old) (R.remaining input.new) bytes) }
+{
+    let mut bytes = [0; N];
+    (read_full(input, &mut bytes) == Ok(N)).then_some(bytes)
 }

@@ -1,14 +1,14 @@
 -- The digits that `io::decimal` writes are those of the definition.
 use Prim.Native.Nat.{ℕ, zero, suc, ◌-◌, ◌/◌, ◌%◌, ◌^◌, ◌≤◌, ◌<◌}
 use mathlib.Core.Path.{◌≡◌}
-use native.Mathlib.Decide.{dec_lt}
 use native.Mathlib.Nat.{pow-suc, one-le-pow}
 use native.Mathlib.Omega.{arith}
 use borrow.Author.Tests.{lt-ltb, le-ltb}
+use Rattle.std.proofs.Common.{inl, inr}
+use Rattle.std.proofs.lemmas.Bool.{cases_lt}
 use lib.ListN.{length, length-append}
 use Rattle.io.specs.Digits.{last_digits, IsDigitCount}
 use Rattle.text.specs.Text.{digits_of, decimal}
-use Rattle.text.proofs.Tests.{dec-case}
 
 module _ (k n : ℕ) (f : IsDigitCount 10 1 n (suc (suc k))) where
   least : 10 ^ suc k ≤ n
@@ -55,6 +55,7 @@ few (suc most) zero n h below = absurd (omega arith)
 few (suc most) (suc zero) n h below = let small : n < 10 = below in rw (lt-ltb n 10 small) (omega arith)
 few (suc most) (suc (suc k)) n h below =
     let rest = few most (suc k) (n / 10) (omega arith) (omega (arith, below, pow-suc 10 (suc k))) in
-    dec-case (dec_lt n 10)
-    (λ small. rw (lt-ltb n 10 small) (omega arith))
-    (λ large. rw (le-ltb n 10 (omega (arith, large)), length-append) (omega (arith, rest)))
+    elim (cases_lt n 10) [
+      | inl small ↦ rw (lt-ltb n 10 small) (omega arith)
+      | inr large ↦ rw (le-ltb n 10 large, length-append) (omega (arith, rest))
+    ]

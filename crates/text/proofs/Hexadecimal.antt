@@ -1,9 +1,12 @@
 -- Bytes in hexadecimal.
-use Prim.Native.Nat.{ℕ, ◌+◌, ◌*◌, ◌/◌, ◌%◌, ◌<◌}
+use Prim.Native.Nat.{ℕ, min, ◌+◌, ◌*◌, ◌/◌, ◌%◌, ◌<◌}
 use mathlib.Core.Path.{◌≡◌, refl, sym, ap, ◌∙◌}
 use mathlib.Core.List.{List, [], ◌∷◌, ◌++◌, append_assoc}
 use native.Mathlib.Numerals.{add-one}
 use native.Mathlib.Omega.{arith}
+use Rattle.std.proofs.Common.{inl, inr}
+use Rattle.std.proofs.Math.Nat.{min-eq_left, min-eq_right}
+use Rattle.std.proofs.lemmas.Bool.{cases_lt}
 use lib.ListN.{length, take, drop, get_or, take-append-drop}
 use lib.Seq.{take-suc}
 use Rattle.text.specs.Text.{hex_digit, hexes}
@@ -33,3 +36,11 @@ pub hexes-around : (bytes : List ℕ) (i : ℕ) → i < length bytes → hexes b
 hexes-around bytes i h =
     ap hexes (sym (take-append-drop (i + 1) bytes)) ∙ hexes-joined (take (i + 1) bytes) (drop (i + 1) bytes)
     ∙ rw (hexes-more bytes i h) (append_assoc (hexes (take i bytes)) _ _)
+
+-- a count that did not saturate
+pub below-most : (n most : ℕ) → min n most < most → min n most ≡ n
+below-most n most h =
+    elim (cases_lt n most) [
+      | inl small ↦ min-eq_left (omega arith)
+      | inr large ↦ let e = min-eq_right large in absurd (omega (arith, e))
+    ]

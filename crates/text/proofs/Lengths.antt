@@ -2,21 +2,22 @@
 use Prim.Native.Nat.{ℕ, zero, suc, ◌+◌, ◌*◌, ◌/◌, ◌≤◌}
 use mathlib.Core.Path.{◌≡◌}
 use mathlib.Core.List.{List}
-use native.Mathlib.Decide.{dec_lt}
 use native.Mathlib.Omega.{arith}
 use borrow.Author.Tests.{lt-ltb, le-ltb}
+use Rattle.std.proofs.Common.{inl, inr}
+use Rattle.std.proofs.lemmas.Bool.{cases_lt}
 use lib.ListN.{length, length-append}
 use Rattle.text.specs.Text.{digits_of, decimal, line, at_line, hex_line}
-use Rattle.text.proofs.Tests.{dec-case}
 use Rattle.text.proofs.Hexadecimal.{hexes-long}
 
 digits-few : (most n : ℕ) → length (digits_of most n) ≤ most
 unfolding digits_of
 digits-few zero n = omega arith
 digits-few (suc most) n =
-    dec-case (dec_lt n 10)
-    (λ small. rw (lt-ltb n 10 small) (omega arith))
-    (λ large. rw (le-ltb n 10 (omega (arith, large)), length-append) (omega (arith, digits-few most (n / 10))))
+    elim (cases_lt n 10) [
+      | inl small ↦ rw (lt-ltb n 10 small) (omega arith)
+      | inr large ↦ rw (le-ltb n 10 large, length-append) (omega (arith, digits-few most (n / 10)))
+    ]
 
 pub decimal-few : (n : ℕ) → length (decimal n) ≤ 20
 decimal-few n = digits-few 20 n

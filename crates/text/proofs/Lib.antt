@@ -1,5 +1,4 @@
 -- The laws of `text`.
-pub mod Tests
 pub mod Putting
 pub mod Digits
 pub mod Hexadecimal

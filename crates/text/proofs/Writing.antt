@@ -4,12 +4,13 @@ use Prim.Native.Nat.{ℕ, ◌+◌, ◌≤◌}
 use mathlib.Core.Path.{◌≡◌, refl, sym, ap, ◌∙◌}
 use mathlib.Core.Bool.{true, false}
 use mathlib.Core.List.{List, [], ◌++◌, append_assoc}
-use native.Mathlib.Decide.{dec_lt}
 use native.Mathlib.Omega.{arith}
 use borrow.Author.Tests.{le-ltb, lt-ltb}
 use lib.Dec.{ltb}
 use lib.ListN.{length, take, drop, length-append, length-drop, length-take, take-append-drop}
 use lib.Seq.{length-take-le, take_at, drop_at}
+use Rattle.std.proofs.Common.{inl, inr}
+use Rattle.std.proofs.lemmas.Bool.{cases_lt}
 use Rattle.refusal.specs.declared.Refusal.{Refusal}
 use Rattle.refusal.specs.declared.Refusal.TheVariants.{Room}
 use Rattle.refusal.proofs.Numbers.{refuses}
@@ -17,7 +18,6 @@ use Rattle.text.specs.declared.Page.{Page}
 use Rattle.text.specs.Puts.{Puts, Adds}
 use Rattle.text.specs.Writes.{Writes, Put, put_in, put_out, put_by}
 use Rattle.text.proofs.Putting.{none, joined}
-use Rattle.text.proofs.Tests.{dec-case, below}
 
 abbrev pub Fits : Page → List ℕ → Type 0
 Fits p text = p.end + length text ≤ length p.out.now
@@ -61,8 +61,7 @@ module _ {a : Page} {text : List ℕ} (len : ℕ) where
   unfolding put_in put_out
   refused {e} f is never =
       let short : ltb (length a.out.now) (a.end + length text) ≡ true =
-      dec-case (dec_lt (length a.out.now) (a.end + length text)) (λ h. lt-ltb _ _ h)
-      (λ h. let e = never (f (below _ _ h)) in cc) in
+      elim (cases_lt (length a.out.now) (a.end + length text)) [ inl h ↦ lt-ltb _ _ h | inr h ↦ let e = never (f h) in cc ] in
       record { answer = rw (is, short); output = rw short; place = λ _. refl; same = refl }
 
 -- ---- one text behind another

@@ -6,16 +6,14 @@ use deck::Deck;
 const ROUNDS: u32 = 20000;
 
 fn play(block: &[u8]) -> u64 {
-    let mut out = [0u8; 18];
+    let mut out = [0; 18];
     let mut deck = Deck::power_on();
     let mut replies: u64 = 0;
     for round in 0..ROUNDS {
         for byte in block {
-            let answer = deck.byte(u64::from(round), *byte, 0, &mut out);
-            deck = answer.deck;
-            let sent = answer.first;
-            if sent.len != 0 {
-                replies = replies.wrapping_add(1);
+            if let Ok(answer) = deck.byte(u64::from(round), *byte, 0, &mut out) {
+                deck = answer.deck;
+                replies = replies.wrapping_add(u64::from(answer.first.is_some()));
             }
         }
     }
@@ -23,8 +21,8 @@ fn play(block: &[u8]) -> u64 {
 }
 
 fn main(rt: HostRuntime) {
-    let mut buf = [0u8; 65536];
-    let count = streams::read_full(&mut rt.stdin(), &mut buf).count;
+    let mut buf = [0; 65536];
+    let count = streams::read_full(&mut rt.stdin(), &mut buf).unwrap_or_else(|cut| cut.count);
     let replies = play(&buf[..count]);
     let _ = println!(rt; "replies {replies}");
 }

@@ -7,7 +7,7 @@ use Rattle.answer.proofs.answer.Goals as goal
 
 pub returns-clause-prefix_len : goal.returns-clause-prefix_len
 returns-clause-prefix_len c =
-    let t = c.transcript-written in
+    let t = c.transcript in
     let bytes = c.args.bytes.now in
     let out = c.args.out.now in
     let text = transcript bytes in
@@ -17,7 +17,7 @@ returns-clause-prefix_len c =
 
 pub returns-clause-out_after : goal.returns-clause-out_after
 returns-clause-out_after c =
-    let t = c.transcript-written in
+    let t = c.transcript in
     let bytes = c.args.bytes.now in
     let out = c.args.out.now in
     rw (t.ensures.answer, t.ensures.output) (told (room_for bytes) (transcript bytes) out c.requires)

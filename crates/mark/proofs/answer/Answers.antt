@@ -17,7 +17,7 @@ slice_bounds-text-end c = let m = c.mark-marked in simp length-take (omega (arit
 pub returns : goal.returns
 returns c =
     let m = c.mark-marked in
-    let t = c.text-written in
+    let t = c.text in
     let out = c.args.out.now in
     let starts = take m.result.count m.new.table in
     let few : m.result.count ≤ 5461 = rw (length-replicate {A = ℕ} 5461 0) at (counted m.ensures) in

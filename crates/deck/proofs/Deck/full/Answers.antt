@@ -3,6 +3,8 @@ use Prim.Native.Nat.{ℕ, ◌-◌, ◌%◌, ◌≤◌}
 use mathlib.Core.Path.{◌≡◌, refl, ◌∙◌}
 use mathlib.Core.List.{List, [], ◌∷◌, ◌++◌, append-nil}
 use lib.ListN.{length}
+use Rattle.std.proofs.Common.{Result, Ok}
+use Rattle.refusal.specs.declared.Refusal.{Refusal}
 use Rattle.execute.specs.declared.Executed.{Executed}
 use Rattle.execute.specs.Execute.{block_in, execute, executed, executed_out, shown, shown_out}
 use Rattle.execute.specs.Replies.{Outcome}
@@ -22,17 +24,23 @@ module _ (d : Held) (content : ℕ) (out : List ℕ) (held : 1 ≤ d.held) (room
   abbrev handed : List ℕ
   handed = block_in (d.first % 256) (d.held - 1) d.tail content
 
-  done : (r : Executed) → r ≡ executed d.settings handed out → r ≡ shown outcome
+  done : (r : Result Executed Refusal) → r ≡ executed d.settings handed out → r ≡ Ok (shown outcome)
   done r e = rw (in_parts d.held d.first content d.tail held) at e ∙ executed-shown d.settings ((view d).block ++ content ∷ []) out room
 
   put : (exit : List ℕ) → exit ≡ executed_out d.settings handed out → exit ≡ shown_out outcome out
   put exit e = rw (in_parts d.held d.first content d.tail held) at e ∙ executed-output d.settings ((view d).block ++ content ∷ []) out room
 
+pub unwrap-done-requires : goal.unwrap-done-requires
+unwrap-done-requires c =
+    let a = c.args in
+    rw (done a.self a.content a.out.now c.requires.0 c.requires.1.1 c.execute.result c.execute.ensures.answer) refl
+
 pub returns-then-done : goal.returns-then-done
 returns-then-done c =
     let a = c.args in
-    let e = c.execute-done.ensures in
-    let s = done a.self a.content a.out.now c.requires.0 c.requires.1.1 _ e.answer in
+    let e = c.execute.ensures in
+    let k = done a.self a.content a.out.now c.requires.0 c.requires.1.1 c.execute.result e.answer in
+    let s : c.unwrap-done.result ≡ shown (outcome a.self a.content a.out.now c.requires.0 c.requires.1.1) = cc in
     let o = put a.self a.content a.out.now c.requires.0 c.requires.1.1 _ e.output in
     record {
       seen-is = same-call refl refl (rw (s, rw s at c.if-done.true)) (rw s) refl (rw append-nil o);
@@ -42,8 +50,9 @@ returns-then-done c =
 pub returns-else-done : goal.returns-else-done
 returns-else-done c =
     let a = c.args in
-    let e = c.execute-done.ensures in
-    let s = done a.self a.content a.out.now c.requires.0 c.requires.1.1 _ e.answer in
+    let e = c.execute.ensures in
+    let k = done a.self a.content a.out.now c.requires.0 c.requires.1.1 c.execute.result e.answer in
+    let s : c.unwrap-done.result ≡ shown (outcome a.self a.content a.out.now c.requires.0 c.requires.1.1) = cc in
     let o = put a.self a.content a.out.now c.requires.0 c.requires.1.1 _ e.output in
     record {
       seen-is = same-call refl refl (rw (s, rw s at c.if-done.false)) (rw s) refl (rw append-nil o);

@@ -1,7 +1,8 @@
 -- `Deck::heard` meets its contract: quiet, flags and clean bytes in the order of the definition.
 use mathlib.Core.Path.{refl}
 use Rattle.deck.specs.Calls.{view}
-use Rattle.deck.proofs.Steps.{byte-clean, byte-dropped, byte-flagged}
+use Rattle.deck.proofs.Steps.{byte-clean}
+use Rattle.deck.proofs.Steps.{byte-dropped, byte-flagged}
 use Rattle.deck.proofs.Seen.{silent}
 use Rattle.deck.proofs.Deck.heard.Goals as goal
 

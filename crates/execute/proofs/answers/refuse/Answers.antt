@@ -1,14 +1,22 @@
 -- `answers::refuse` meets its contract.
-use Rattle.std.proofs.Common.{[], ◌∷◌, ◌∙◌, arith}
-use Rattle.execute.proofs.Written.{reply-length, reply-out}
+use Rattle.std.proofs.Common.{◌≡◌, [], ◌∷◌, length, refl, ◌∙◌, arith}
+use Rattle.execute.specs.Replies.{nak}
+use Rattle.execute.proofs.Written.{reply-is, reply-out}
 use Rattle.execute.proofs.answers.refuse.Goals as goal
 
-pub returns : goal.returns
-returns c =
-    let a = c.args in
-    let w = c.nak-w.ensures in
-    let bytes = a.why ∷ [] in
-    record {
-      answer = rw (w.0, reply-length 0x1 0x12 bytes a.out.now (omega arith) (omega arith) c.requires, c.opens_quiet.ensures);
-      output = w.1 ∙ reply-out 0x1 0x12 bytes a.out.now (omega arith) (omega arith) c.requires;
-    }
+pub unwrap-requires : goal.unwrap-requires
+unwrap-requires c =
+    let bytes = c.byte-why.result ∷ [] in
+    rw (reply-is 0x1 0x12 bytes c.args.out.now (omega arith) (omega arith) c.requires c.nak.result c.nak.ensures.0) refl
+
+pub returns-clause-answer : goal.returns-clause-answer
+returns-clause-answer c =
+    let bytes = c.byte-why.result ∷ [] in
+    let e = reply-is 0x1 0x12 bytes c.args.out.now (omega arith) (omega arith) c.requires c.nak.result c.nak.ensures.0 in
+    let n : c.unwrap.result ≡ length (nak c.byte-why.result) = cc in
+    rw (n, c.opens_quiet.ensures, c.byte-why.ensures)
+
+pub returns-clause-output : goal.returns-clause-output
+returns-clause-output c =
+    let bytes = c.byte-why.result ∷ [] in
+    rw (← c.byte-why.ensures) (c.nak.ensures.1 ∙ reply-out 0x1 0x12 bytes c.args.out.now (omega arith) (omega arith) c.requires)

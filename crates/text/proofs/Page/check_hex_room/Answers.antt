@@ -2,7 +2,7 @@
 use Prim.Native.Nat.{ℕ, ◌+◌, ◌*◌}
 use native.Mathlib.Omega.{arith}
 use Rattle.std.proofs.Math.Nat.{min-le_left}
-use Rattle.text.proofs.Tests.{below-most}
+use Rattle.text.proofs.Hexadecimal.{below-most}
 use Rattle.text.proofs.Page.check_hex_room.Goals as goal
 
 pub returns-clause-fits : goal.returns-clause-fits
