@@ -11,7 +11,7 @@ use lib.ListN.{length}
 use Rattle.deck.specs.declared.Deck.{Deck as Held}
 use Rattle.std.specs.Prelude.{IfSome}
 use Rattle.deck.specs.Line.{byte, Deck, Answer, silently, timed_out, size, looked, answers}
-use Rattle.deck.specs.Calls.{refusal, number, flags_fit, told, view, Returned, Answers}
+use Rattle.deck.specs.Calls.{refusal, number, flags_fit, view, Returned}
 use Rattle.deck.specs.Joins.{grows, fills, joins, Tried, joining, filling, striking, OnlyIf}
 use Rattle.deck.proofs.Made.{made_so}
 use Rattle.deck.proofs.Late.{both_true}

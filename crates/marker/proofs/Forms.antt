@@ -1,16 +1,14 @@
 -- The kinds of entries, as the code tests them.
 use Prim.Native.Nat.{ℕ, zero, suc, ◌<◌, ◌^◌}
-use mathlib.Core.Path.{◌≡◌, refl, sym, ap, ◌∙◌}
+use mathlib.Core.Path.{◌≡◌, refl, sym, ◌∙◌}
 use mathlib.Core.Bool.{true, false, false≢true}
-use native.Mathlib.Omega.{arith}
 use borrow.Author.Tests.{ltb-true}
 use lib.Dec.{eqb, ltb}
 use Rattle.timecode.specs.Time.{day}
 use Rattle.deck.specs.Calls.{flags_fit}
 use Rattle.deck.proofs.Late.{both_true}
 use Rattle.record.specs.declared.Entry.{Entry}
-use Rattle.std.specs.Prelude.{Option, Some, None}
-use Rattle.record.specs.declared.kind.Kind.{Kind}
+use Rattle.std.specs.Prelude.{Some, None}
 use Rattle.record.specs.declared.kind.Kind.TheVariants.{Controller, Deck as DeckByte, Position, Cassette}
 use Rattle.record.specs.Entries.{kind_of, fits, formed, is_controller, is_deck}
 use Rattle.record.proofs.Forms.{fits-controller, fits-position}

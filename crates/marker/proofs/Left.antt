@@ -9,7 +9,7 @@ use borrow.Author.Tests.{eq-eqb, ne_eqb}
 use lib.Dec.{eqb}
 use lib.ListN.{length, take, drop, get_or, length-drop}
 use lib.Seq.{take-nil, take_all, get_or-take}
-use Rattle.std.specs.Prelude.{Option, Some, None, cond}
+use Rattle.std.specs.Prelude.{Some, None}
 use Rattle.packed.specs.declared.Packed.{Packed}
 use Rattle.packed.specs.Numbers.{low_bytes}
 use Rattle.packed.specs.Packed.{packed, unpacked}

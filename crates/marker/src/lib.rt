@@ -64,7 +64,13 @@ impl From<Result<Findings, Refusal>> for Marked {
 
     fn from(found: Result<Findings, Refusal>) -> Marked {
         match found {
-            Ok(Findings { fault, place, count }) => Marked {
+            Ok(
+                Findings {
+                    fault,
+                    place,
+                    count,
+                },
+            ) => Marked {
                 no: 0,
                 fault: fault.map_or(0, |fault| fault.number()),
                 place,

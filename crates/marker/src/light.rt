@@ -27,7 +27,10 @@ impl Marker {
             && self.deck.clock <= e.time
             && self.deck.held == 0
             && e.time <= self.waits.latest
-            && self.waits.next().is_some_and(|next| e.content == next as u32)
+            && self
+                .waits
+                .next()
+                .is_some_and(|next| e.content == next as u32)
     }
 
     // A deck byte.

@@ -1,7 +1,7 @@
 -- `Marker::act` meets its contract, by the kind of the entry.
-use mathlib.Core.Path.{◌≡◌, refl, sym, ap, ◌∙◌}
+use mathlib.Core.Path.{refl, sym, ap, ◌∙◌}
 use native.Mathlib.Omega.{arith}
-use Rattle.std.specs.Prelude.{Some, None}
+use Rattle.std.specs.Prelude.{Some}
 use Rattle.marker.proofs.Forms.{kind-controller, kind-deck, kind-position, kind-cassette, formed-controller, formed-position, formed-kind}
 use Rattle.marker.proofs.Whole.{does, takes}
 use Rattle.marker.proofs.Marker.act.Goals as goal

@@ -12,8 +12,8 @@ use Rattle.marker.proofs.Marker.block_byte.Goals.{then-e-gt255-via-then-e-gt255,
 pub returns-then-e-gt255 : goal.returns-then-e-gt255
 returns-then-e-gt255 c =
     elim c.then-e-gt255.branch [
-      then-e-gt255-via-then-e-gt255 w ↦ unfilled-content c.args.self c.args.e w.if-e-gt255.true
-    | then-e-gt255-via-else-e-gt255+then-any w ↦ unfilled-waits c.args.self c.args.e (sym w.any.ensures ∙ w.if-any.true)
+      | then-e-gt255-via-then-e-gt255 w ↦ unfilled-content c.args.self c.args.e w.if-e-gt255.true
+      | then-e-gt255-via-else-e-gt255+then-any w ↦ unfilled-waits c.args.self c.args.e (sym w.any.ensures ∙ w.if-any.true)
     ]
 
 pub returns-in-Ok-Taken : goal.returns-in-Ok-Taken

@@ -10,9 +10,9 @@ unfolding resting
 returns-then-self-ne0 c =
     let d = c.args.self.deck in
     elim c.then-self-ne0.branch [
-      then-self-ne0-via-then-self-ne0 w ↦ rw (opened d.held d.first d.tail w.if-self-ne0.true)
-    | then-self-ne0-via-else-self-ne0+then-any w ↦
-        rw (shut d.held d.first d.tail w.if-self-ne0.false, ← w.any.ensures, w.if-any.true)
+      | then-self-ne0-via-then-self-ne0 w ↦ rw (opened d.held d.first d.tail w.if-self-ne0.true)
+      | then-self-ne0-via-else-self-ne0+then-any w ↦
+          rw (shut d.held d.first d.tail w.if-self-ne0.false, ← w.any.ensures, w.if-any.true)
     ]
 
 pub returns : goal.returns

@@ -1,7 +1,6 @@
 -- `Waits::next` meets its contract.
 use mathlib.Core.Path.{sym, ap, ◌∙◌}
-use native.Mathlib.Omega.{arith}
-use Rattle.std.specs.Prelude.{Some, ℕ}
+use Rattle.std.specs.Prelude.{Some}
 use Rattle.marker.specs.Steps.{awaited}
 use Rattle.marker.proofs.Left.{front-none, front-some, any-above, next-left}
 use Rattle.marker.proofs.Waits.next.Goals as goal

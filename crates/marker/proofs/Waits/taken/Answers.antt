@@ -1,13 +1,10 @@
 -- `Waits::taken` meets its contract, by how many bytes are left.
-use Prim.Native.Nat.{ℕ, ◌+◌, ◌-◌}
-use mathlib.Core.Path.{sym, ap, ◌∙◌}
+use Prim.Native.Nat.{ℕ, ◌+◌}
+use mathlib.Core.Path.{ap}
 use mathlib.Core.List.{List}
 use native.Mathlib.Omega.{arith}
-use lib.ListN.{take, drop}
-use Rattle.packed.specs.declared.Packed.{Packed}
-use Rattle.packed.specs.Packed.{unpacked}
 use Rattle.record.specs.Machine.{Waiting, waiting}
-use Rattle.marker.proofs.Left.{none_left, taken-low, taken-rest}
+use Rattle.marker.proofs.Left.{taken-low, taken-rest}
 use Rattle.marker.proofs.Waits.taken.Goals as goal
 use Rattle.marker.proofs.Waits.taken.Goals.{in-0, in-1-to-8, in_default}
 
@@ -20,9 +17,9 @@ returns c =
     let w = c.args.self in
     let t = c.args.time in
     elim c.match-self.branch [
-      in-0 b ↦ rw (b.left-is, b.in-0.is)
-    | in-1-to-8 b ↦
-        rw (b.left-is, b.low_rest.ensures) (ap (until t) (taken-low w (omega arith) (omega arith)))
-    | in_default b ↦
-        rw (b.left-is, b.rest.ensures, b.min.ensures) (ap (until t) (taken-rest w (omega arith)))
+      | in-0 b ↦ rw (b.left-is, b.in-0.is)
+      | in-1-to-8 b ↦
+          rw (b.left-is, b.low_rest.ensures) (ap (until t) (taken-low w (omega arith) (omega arith)))
+      | in_default b ↦
+          rw (b.left-is, b.rest.ensures, b.min.ensures) (ap (until t) (taken-rest w (omega arith)))
     ]

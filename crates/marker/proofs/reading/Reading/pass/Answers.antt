@@ -1,8 +1,8 @@
 -- `Reading::pass` meets its contract.
-use mathlib.Core.Path.{◌≡◌, refl, sym, ap, ◌∙◌, subst}
+use mathlib.Core.Path.{subst}
 use native.Mathlib.Omega.{arith}
 use Rattle.record.specs.declared.Entry.{Entry}
-use Rattle.marker.specs.Steps.{stepped, Steps, fills_block}
+use Rattle.marker.specs.Steps.{stepped, Steps}
 use Rattle.marker.proofs.Entries.{here, past}
 use Rattle.marker.proofs.Judged.{on, counts, has-room}
 use Rattle.marker.proofs.reading.Reading.pass.Goals as goal
