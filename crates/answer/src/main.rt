@@ -15,7 +15,7 @@ fn answer(bytes: &[u8], out: &mut [u8]) -> usize
     ensures prefix_len { IsPrefixLen result out.new }
     ensures out_after { take result out.new ≡ transcript bytes.now }
 {
-    report::transcript(bytes, out).len
+    report::transcript(bytes, out).unwrap()
 }
 
 // The output, with room for the longest transcript, that of 5,461 entries. In `run` itself the check unfolds so long an array, and
