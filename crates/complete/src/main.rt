@@ -29,7 +29,7 @@ fn answer(bytes: &[u8], out: &mut [u8]) -> usize
 // longest completed record, 7 times as many, or a refusal.
 fn run(rt: &HostRuntime) -> Result<(), Failure> {
     let mut buf = [0; 65536];
-    let count = program::read(rt, &mut rt.stdin(), &mut buf)?;
+    let count = program::read(rt, &mut rt.stdin(), &mut buf, "complete < EXERCISE")?;
     let mut out = [0; 458781];
     let len = answer(&buf[..count], &mut out);
     rt.write_all(&out[..len]).map_err(|_| Failure::Write)
@@ -37,6 +37,6 @@ fn run(rt: &HostRuntime) -> Result<(), Failure> {
 
 fn main(rt: HostRuntime) {
     if let Err(failure) = run(&rt) {
-        failure.tell(&rt, "complete", "EXERCISE");
+        let _ = eprintln!(rt; "complete: {failure}");
     }
 }

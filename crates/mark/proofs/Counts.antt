@@ -10,7 +10,8 @@ use Rattle.marker.proofs.Taken.{fitting}
 pub counted : {bytes before after : List ℕ} {r : Marked} → Marks bytes before r after → r.count ≤ length before
 counted {bytes} {before} {after} {r} m =
     elim (cases_lt 0 r.no) [
-      inl h ↦ let e : r.count ≡ 0 = ap (λ (x : Marked). x.count) (m.refused (λ z. omega (arith, h, z))).0 in omega (arith, e)
+      | inl h ↦ let e : r.count ≡ 0 = ap (λ (x : Marked). x.count) (m.refused (λ z. omega (arith, h, z))).0 in omega (arith, e)
       | inr h ↦
-        let z : r.no ≡ 0 = omega (arith, h) in
-        omega (arith, m.few z, length-entries bytes, (fitting _ _ (sym m.number ∙ z)).1) ]
+          let z : r.no ≡ 0 = omega (arith, h) in
+          omega (arith, m.few z, length-entries bytes, (fitting _ _ (sym m.number ∙ z)).1)
+    ]

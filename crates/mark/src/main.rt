@@ -22,7 +22,7 @@ fn answer(bytes: &[u8], out: &mut [u8]) -> usize
 // Of a record that is longer than the buffer 65,536 bytes are read: too many, so it is refused all the same.
 fn run(rt: &HostRuntime) -> Result<(), Failure> {
     let mut buf = [0; 65536];
-    let count = program::read(rt, &mut rt.stdin(), &mut buf)?;
+    let count = program::read(rt, &mut rt.stdin(), &mut buf, "mark < RECORD")?;
     let mut out = [0; 87440];
     let len = answer(&buf[..count], &mut out);
     rt.write_all(&out[..len]).map_err(|_| Failure::Write)
@@ -30,6 +30,6 @@ fn run(rt: &HostRuntime) -> Result<(), Failure> {
 
 fn main(rt: HostRuntime) {
     if let Err(failure) = run(&rt) {
-        failure.tell(&rt, "mark", "RECORD");
+        let _ = eprintln!(rt; "mark: {failure}");
     }
 }

@@ -1,19 +1,18 @@
 -- An entry that fills the block: its step. And where none does: what is left for the deck to be told.
 use Prim.Native.Nat.{ℕ, zero, suc, ◌+◌, ◌*◌, ◌%◌, ◌≤◌, ◌<◌, ◌^◌}
-use mathlib.Core.Path.{◌≡◌, refl, sym, ap, ◌∙◌}
+use mathlib.Core.Path.{◌≡◌, refl, sym, ap, ◌∙◌, subst}
 use mathlib.Core.Bool.{Bool, true, false, not, and-false, false≢true}
 use mathlib.Core.List.{List, [], ◌∷◌, ◌++◌}
 use native.Mathlib.Decide.{ℕ_discrete, dec_le}
 use native.Mathlib.Omega.{arith}
-use borrow.Author.Tests.{lt-ltb, le-ltb, lt-leb, ne_eqb, eqb-true, ltb-true, ltb-false, leb-false}
+use borrow.Author.Tests.{lt-ltb, le-ltb, lt-leb, ne_eqb, not-true, eqb-true, ltb-true, ltb-false, leb-false}
 use lib.Dec.{eqb, ltb}
 use lib.ListN.{length}
 use Rattle.deck.specs.declared.Deck.{Deck as Held}
-use Rattle.deck.specs.declared.Answer.{Answer as Returned}
-use Rattle.deck.specs.declared.Joined.{Joined}
+use Rattle.std.specs.Prelude.{IfSome}
 use Rattle.deck.specs.Line.{byte, Deck, Answer, silently, timed_out, size, looked, answers}
-use Rattle.deck.specs.Calls.{refusal, number, flags_fit, told, view, Answers}
-use Rattle.deck.specs.Joins.{grows, fills, joins, joining, filling, striking, OnlyIf}
+use Rattle.deck.specs.Calls.{refusal, number, flags_fit, view, Returned}
+use Rattle.deck.specs.Joins.{grows, fills, joins, Tried, joining, filling, striking, OnlyIf}
 use Rattle.deck.proofs.Made.{made_so}
 use Rattle.deck.proofs.Late.{both_true}
 use Rattle.deck.proofs.Held.{opened}
@@ -21,16 +20,16 @@ use Rattle.deck.proofs.Steps.{look-found, look-nothing, byte-dropped}
 use Rattle.deck.proofs.Found.{byte-in-time}
 use Rattle.deck.proofs.Replies.{late-looked}
 use Rattle.deck.proofs.Numbers.{unrefused}
-use Rattle.deck.proofs.Joining.{allowed, joins-taken, joins-grows, joining-is, joins-deck, joins-answers, joining-made}
+use Rattle.deck.proofs.Joining.{allowed, joins-taken, joins-grows, joining-is, joining-fills, joins-deck, joins-answers, joining-made}
 use Rattle.deck.proofs.Filling.{grows-fills, fills-looked, fills-open, filling-is, striking-dropped, striking-heard}
 use Rattle.record.specs.declared.Entry.{Entry}
 use Rattle.record.specs.Entries.{formed, is_controller}
 use Rattle.record.specs.Machine.{Waiting, some, await}
 use Rattle.marker.specs.declared.Marker.{Marker}
-use Rattle.marker.specs.Steps.{awaited, heard, Acts, late_fault, Steps, fills_block}
-use Rattle.marker.proofs.Forms.{no-controller, not-true, formed-time, formed-controller}
+use Rattle.marker.specs.Steps.{awaited, heard, Timed, Acts, late_fault, Steps, fills_block}
+use Rattle.marker.proofs.Forms.{no-controller, formed-time, formed-controller}
 use Rattle.marker.proofs.Tests.{none-awaited, overdue, interrupts}
-use Rattle.marker.proofs.Answered.{Brief, brief-soon, due-early, acts}
+use Rattle.marker.proofs.Answered.{brief-soon, Asked, asked}
 use Rattle.marker.proofs.Whole.{does}
 use Rattle.marker.proofs.Passing.{timed, passes, formed-byte}
 
@@ -68,20 +67,17 @@ module _ (m : Marker) (e : Entry) (y : fills_block m e ≡ true) where
   in-time : (e.time < 2 ^ 48) × (d.clock ≤ e.time)
   in-time = allowed 18 d.clock e.time 0 0 (eqb-true _ _ tests.4)
 
-  pub taken : number 24 d.clock (byte e.time e.content 0) ≡ 0
-  taken = unrefused 24 d.clock e.time 0 0 (omega arith) in-time.1 in-time.0 refl (omega arith)
-
-  pub filling-taken : filling 24 d e.time e.content ≡ true
-  filling-taken = filling-is 24 d e.time e.content 0 (sym taken) refl true (sym tests.5)
-
   silent : looked (view d) e.time ≡ silently (view d)
   silent = fills-looked d e.time e.content tests.5
 
-  pub brief : Brief e.time (answers (view d) (byte e.time e.content 0)).replies
-  brief = brief-soon (view d) (byte e.time e.content 0) silent
-
-  pub early : e.time < 2 ^ 48
-  early = in-time.0
+  -- the deck takes it
+  pub asked-fill : {out exit : List ℕ} {q : Returned} → 18 ≤ length out
+      → OnlyIf (filling (length out) d e.time e.content) d (byte e.time e.content 0) out q exit
+      → Asked m e.time (answers (view d) (byte e.time e.content 0)) q exit
+  asked-fill {out} room x =
+      let z = unrefused (length out) d.clock e.time 0 0 room in-time.1 in-time.0 refl (omega arith) in
+      asked m (byte e.time e.content 0) (x.does (filling-is (length out) d e.time e.content 0 (sym z) refl true (sym tests.5))) z in-time.0
+      (brief-soon (view d) (byte e.time e.content 0) silent)
 
   pub fills-so : (q : Marker) → Acts m e.time (answers (view d) (byte e.time e.content 0)) q
       → Steps m e (record { fault = 0; begins = false; marker = q })
@@ -94,7 +90,7 @@ module _ (m : Marker) (e : Entry) (y : fills_block m e ≡ true) where
         clock = a.clock;
         made = λ k. a.made (made_so (timed e.time m).deck d refl refl refl k);
       }) in
-      passes m q e (formed-byte m e clean kind small early) in-time.1 silent
+      passes m q e (formed-byte m e clean kind small in-time.0) in-time.1 silent
       (none-awaited (view d) (awaited m.waits) e (not-true _ tests.3) (λ z. omega (arith, kind)))
       (does (timed e.time m) q e 0 kind refl silent p)
       false
@@ -103,34 +99,37 @@ module _ (m : Marker) (e : Entry) (y : fills_block m e ≡ true) where
 -- ---- an entry that does not
 
 module _ (m : Marker) (e : Entry) where
-  pub unfilled-kind : (e.kind ≡ 0 → ⊥) → false ≡ fills_block m e
+  pub unfilled-kind : (e.kind ≡ 0 → ⊥) → fills_block m e ≡ false
   unfolding fills_block
   unfilled-kind k = rw (no-controller e.kind k)
 
-  pub unfilled-flags : (e.flags ≡ 0 → ⊥) → false ≡ fills_block m e
+  pub unfilled-head : (e.kind + 256 * e.flags ≡ 0 → ⊥) → fills_block m e ≡ false
   unfolding fills_block
-  unfilled-flags c = rw (ne_eqb e.flags 0 c, and-false)
-
-  pub unfilled-head : (e.kind + 256 * e.flags ≡ 0 → ⊥) → false ≡ fills_block m e
   unfilled-head h = by (ℕ_discrete e.kind 0)
     where
-      by : Dec (e.kind ≡ 0) → false ≡ fills_block m e
-      by (yes k) = unfilled-flags (λ c. h (omega (arith, k, c)))
+      by : Dec (e.kind ≡ 0) → fills_block m e ≡ false
+      by (yes k) = rw (ne_eqb e.flags 0 (λ c. h (omega (arith, k, c))), and-false)
       by (no k) = unfilled-kind k
 
-  pub unfilled-content : 255 < e.content → false ≡ fills_block m e
+  pub unfilled-content : 255 < e.content → fills_block m e ≡ false
   unfolding fills_block
   unfilled-content h = rw (le-ltb e.content 256 (omega arith), and-false, and-false)
 
-  pub unfilled-waits : some (awaited m.waits).left ≡ true → false ≡ fills_block m e
+  pub unfilled-waits : some (awaited m.waits).left ≡ true → fills_block m e ≡ false
   unfolding fills_block
   unfilled-waits s = rw (s, and-false, and-false, and-false)
 
   -- where the other tests hold, the deck decides
   pub deck-fills : e.kind ≡ 0 → e.flags ≡ 0 → e.content < 256 → some (awaited m.waits).left ≡ false
-      → filling 18 m.deck e.time e.content ≡ fills_block m e
+      → fills_block m e ≡ filling 18 m.deck e.time e.content
   unfolding fills_block
   deck-fills k c h s = rw (k, c, lt-ltb e.content 256 h, s)
+
+  -- as `join` says
+  pub joined-fills : e.kind ≡ 0 → e.flags ≡ 0 → e.content < 256 → some (awaited m.waits).left ≡ false
+      → (j : Tried) → j ≡ joining m.deck e.time e.content → fills_block m e ≡ j.fills
+  joined-fills k c h s j p =
+      deck-fills k c h s ∙ sym (joining-fills m.deck e.time e.content) ∙ sym (ap (λ (z : Tried). z.fills) p)
 
 -- what joins the block does not fill it
 pub joins-unfilled : (d : Held) (t b : ℕ) → joins d t b ≡ true → filling 18 d t b ≡ false
@@ -171,7 +170,7 @@ module _ (m n : Marker) (e : Entry) (y : fills_block m e ≡ false) (f : formed 
   same-fills s =
       let d = m.deck in
       let r = unrefused 18 d.clock e.time 0 0 (omega arith) t (formed-time e f) refl (omega arith) in
-      sym (filling-is 18 d e.time e.content 0 (sym r) refl _ refl) ∙ deck-fills m e k c (formed-controller e f k).1 s ∙ y
+      sym (filling-is 18 d e.time e.content 0 (sym r) refl _ refl) ∙ sym (deck-fills m e k c (formed-controller e f k).1 s) ∙ y
 
   unfilled-soon : timed_out (view m.deck) e.time ≡ false → Unfilled
   unfilled-soon p =
@@ -194,8 +193,7 @@ module _ (m n : Marker) (e : Entry) (y : fills_block m e ≡ false) (f : formed 
 
 -- ---- a byte that does not fill the block, after the look
 
-module _ (m : Marker) (t b flags : ℕ) (clock : m.deck.clock ≡ t) (range : t < 2 ^ 48) (fit : flags_fit flags ≡ true)
-    (s : looked (view m.deck) t ≡ silently (view m.deck)) where
+module _ (m : Marker) (t b flags : ℕ) (k : Timed m t) (fit : flags_fit flags ≡ true) where
   abbrev Told : Marker → Type 0
   Told q = Acts m t (answers (view m.deck) (byte t b flags)) q
 
@@ -203,11 +201,11 @@ module _ (m : Marker) (t b flags : ℕ) (clock : m.deck.clock ≡ t) (range : t 
   soon = by (timed_out (view m.deck) t) refl
     where
       by : (x : Bool) → timed_out (view m.deck) t ≡ x → timed_out (view m.deck) t ≡ false
-      by true p = absurd (late-looked (view m.deck) t p s)
+      by true p = absurd (late-looked (view m.deck) t p k.silent)
       by false p = p
 
   unrefused-at : (room : ℕ) → 18 ≤ room → refusal room m.deck.clock t flags 0 ≡ 0
-  unrefused-at room h = unrefused room m.deck.clock t flags 0 h (omega arith) range fit (omega arith)
+  unrefused-at room h = unrefused room m.deck.clock t flags 0 h (omega (arith, k.clock)) k.range fit (omega arith)
 
   -- in quiet the deck and what is awaited stay
   in-quiet : t < m.deck.free → (q : Marker) → q.deck ≡ m.deck → awaited q.waits ≡ awaited m.waits → Told q
@@ -216,40 +214,35 @@ module _ (m : Marker) (t b flags : ℕ) (clock : m.deck.clock ≡ t) (range : t 
       record {
         deck = ap view p ∙ sym (ap (λ (x : Answer). x.deck) a);
         waits = w ∙ sym (ap (λ (x : Answer). await x.replies (awaited m.waits)) a);
-        clock = ap (λ (x : Held). x.clock) p ∙ clock;
+        clock = ap (λ (x : Held). x.clock) p ∙ k.clock;
         made = λ k. rw p k;
       }
 
-  module _ (entry exit : List ℕ) (r : Returned) (o : flags ≡ 0 → ⊥) (room : 18 ≤ length entry)
-      (x : OnlyIf (striking (length entry) m.deck t flags) m.deck (byte t b flags) entry r exit) where
-    zero_number : number (length entry) m.deck.clock (byte t b flags) ≡ 0
-    zero_number = unrefused-at (length entry) room
+  -- the deck is told a flagged one
+  pub asked-strike : {out exit : List ℕ} {q : Returned} → (flags ≡ 0 → ⊥) → 18 ≤ length out
+      → OnlyIf (striking (length out) m.deck t flags) m.deck (byte t b flags) out q exit
+      → Asked m t (answers (view m.deck) (byte t b flags)) q exit
+  asked-strike {out} {exit} {q} o room x = by (dec_le m.deck.free t)
+    where
+      zero_number : number (length out) m.deck.clock (byte t b flags) ≡ 0
+      zero_number = unrefused-at (length out) room
 
-    struck : m.deck.free ≤ t → Answers m.deck (byte t b flags) entry r exit
-    struck h = x.does (striking-heard (length entry) m.deck t flags 0 (sym zero_number) refl o h soon)
-
-    dropped : t < m.deck.free → (r.deck ≡ m.deck) × (r.first ≡ told [])
-    dropped h =
-        let e = (x.rests (striking-dropped (length entry) m.deck t flags 0 (sym zero_number) h)).0 in
-        (ap (λ (y : Returned). y.deck) e, ap (λ (y : Returned). y.first) e)
-
-    pub struck-due : r.first.due < 2 ^ 48
-    struck-due = by (dec_le m.deck.free t)
-      where
-        by : Dec (m.deck.free ≤ t) → r.first.due < 2 ^ 48
-        by (yes h) =
-            let e = due-early m (byte t b flags) entry exit r (struck h) zero_number (brief-soon (view m.deck) (byte t b flags) s) in
-            omega (arith, e)
-        by (no h) = rw (dropped (omega arith)).1 (omega arith)
-
-    pub struck-acts : (q : Marker) → (q.deck ≡ r.deck) × (awaited q.waits ≡ heard r.first exit (awaited m.waits)) → Told q
-    struck-acts q p = by (dec_le m.deck.free t)
-      where
-        by : Dec (m.deck.free ≤ t) → Told q
-        by (yes h) = acts m (byte t b flags) entry exit r (struck h) zero_number (brief-soon (view m.deck) (byte t b flags) s) q p
-        by (no h) =
-            let e = dropped (omega arith) in
-            in-quiet (omega arith) q (p.0 ∙ e.0) (p.1 ∙ rw e.1)
+      by : Dec (m.deck.free ≤ t) → Asked m t (answers (view m.deck) (byte t b flags)) q exit
+      by (yes h) =
+          asked m (byte t b flags) (x.does (striking-heard (length out) m.deck t flags 0 (sym zero_number) refl o h soon)) zero_number k.range
+          (brief-soon (view m.deck) (byte t b flags) k.silent)
+      by (no h) =
+          let e = (x.rests (striking-dropped (length out) m.deck t flags 0 (sym zero_number) (omega arith))).0 in
+          record {
+            prompt =
+                record {
+                  taken = ap (λ (y : Returned). y.no) e ∙ zero_number;
+                  due = subst (λ (y : Returned). IfSome y.first (λ s. s.due < 2 ^ 48)) (sym e) tt;
+                };
+            acts = λ r d w.
+                in-quiet (omega arith) r (d ∙ ap (λ (y : Returned). y.deck) e)
+                (w ∙ ap (λ (y : Returned). heard y.first exit (awaited m.waits)) e);
+          }
 
 -- a clean byte that neither joins the block nor fills it is in quiet
 neither : (x : Deck) (t b : ℕ) → timed_out x t ≡ false → grows x t b ≡ false → fills x t b ≡ false → t < x.free
@@ -263,24 +256,28 @@ neither x t b p g f = by (dec_le x.free t)
         let v = leb-false (size (x.block ++ b ∷ [])) (length x.block + 1) (rw (p, le-ltb t x.free h) at f) in
         absurd (omega (arith, u, v))
 
-module _ (m : Marker) (t b : ℕ) (clock : m.deck.clock ≡ t) (range : t < 2 ^ 48)
-    (s : looked (view m.deck) t ≡ silently (view m.deck)) (u : fills (view m.deck) t b ≡ false) (h : b < 256) where
-  joined-acts : (x : Bool) → joins m.deck t b ≡ x → (j : Joined) → j ≡ joining m.deck t b
+module _ (m : Marker) (t b : ℕ) (k : Timed m t) (u : fills (view m.deck) t b ≡ false) (h : b < 256) where
+  joined-acts : (x : Bool) → joins m.deck t b ≡ x → (j : Tried) → j ≡ joining m.deck t b
       → Acts m t (answers (view m.deck) (byte t b 0)) (record { deck = j.deck; waits = m.waits })
   joined-acts true y j p =
       let a = joins-answers m.deck t b y h in
       record {
-        deck = ap (λ (z : Joined). view z.deck) p ∙ sym (ap (λ (x : Answer). x.deck) a);
+        deck = ap (λ (z : Tried). view z.deck) p ∙ sym (ap (λ (x : Answer). x.deck) a);
         waits = sym (ap (λ (x : Answer). await x.replies (awaited m.waits)) a);
-        clock = ap (λ (z : Joined). z.deck.clock) p ∙ ap (λ (x : Held). x.clock) (joins-deck m.deck t b y);
+        clock = ap (λ (z : Tried). z.deck.clock) p ∙ ap (λ (x : Held). x.clock) (joins-deck m.deck t b y);
         made = λ k. rw p (joining-made m.deck t b h k);
       }
   joined-acts false y j p =
-      let r = unrefused-at m t b 0 clock range refl s 18 (omega arith) in
+      let r = unrefused-at m t b 0 k refl 18 (omega arith) in
       let g = sym (joins-taken m.deck t b 0 (sym r) refl _ refl) ∙ y in
-      in-quiet m t b 0 clock range refl s (neither (view m.deck) t b (soon m t b 0 clock range refl s) g u)
-      (record { deck = j.deck; waits = m.waits }) (ap (λ (z : Joined). z.deck) (p ∙ joining-is m.deck t b _ false _ refl y refl)) refl
+      in-quiet m t b 0 k refl (neither (view m.deck) t b (soon m t b 0 k refl) g u)
+      (record { deck = j.deck; waits = m.waits }) (ap (λ (z : Tried). z.deck) (p ∙ joining-is m.deck t b _ false _ refl y refl)) refl
 
-  pub joined-so : (j : Joined) → j ≡ joining m.deck t b
+  pub joined-so : (j : Tried) → j ≡ joining m.deck t b
       → Acts m t (answers (view m.deck) (byte t b 0)) (record { deck = j.deck; waits = m.waits })
   joined-so = joined-acts (joins m.deck t b) refl
+
+  -- the deck is the same where the byte does not join
+  pub kept : (j : Tried) → j ≡ joining m.deck t b → j.deck ≡ m.deck → Acts m t (answers (view m.deck) (byte t b 0)) m
+  kept j p e =
+      subst (λ (x : Held). Acts m t (answers (view m.deck) (byte t b 0)) (record { deck = x; waits = m.waits })) e (joined-so j p)

@@ -1,16 +1,17 @@
 -- The kinds of entries, as the code tests them.
 use Prim.Native.Nat.{ℕ, zero, suc, ◌<◌, ◌^◌}
 use mathlib.Core.Path.{◌≡◌, refl, sym, ◌∙◌}
-use mathlib.Core.Bool.{Bool, true, false, not, false≢true}
-use native.Mathlib.Omega.{arith}
+use mathlib.Core.Bool.{true, false, false≢true}
 use borrow.Author.Tests.{ltb-true}
 use lib.Dec.{eqb, ltb}
 use Rattle.timecode.specs.Time.{day}
 use Rattle.deck.specs.Calls.{flags_fit}
 use Rattle.deck.proofs.Late.{both_true}
 use Rattle.record.specs.declared.Entry.{Entry}
-use Rattle.record.specs.Entries.{fits, formed, is_controller, is_deck}
-use Rattle.record.proofs.Forms.{fits-controller, fits-position, fits-none}
+use Rattle.std.specs.Prelude.{Some, None}
+use Rattle.record.specs.declared.kind.Kind.TheVariants.{Controller, Deck as DeckByte, Position, Cassette}
+use Rattle.record.specs.Entries.{kind_of, fits, formed, is_controller, is_deck}
+use Rattle.record.proofs.Forms.{fits-controller, fits-position}
 
 pub no-controller : (k : ℕ) → (k ≡ 0 → ⊥) → is_controller k ≡ false
 no-controller zero n = absurd (n refl)
@@ -21,14 +22,34 @@ no-deck zero n = refl
 no-deck (suc zero) n = absurd (n refl)
 no-deck (suc (suc k)) n = refl
 
--- a test of the code that is turned round
-pub not-true : (b : Bool) → not b ≡ true → b ≡ false
-not-true true p = cc
-not-true false p = refl
+-- the number of a kind
+pub kind-controller : (k : ℕ) → kind_of k ≡ Some Controller → k ≡ 0
+kind-controller zero p = refl
+kind-controller (suc zero) p = cc
+kind-controller (suc (suc zero)) p = cc
+kind-controller (suc (suc (suc zero))) p = cc
+kind-controller (suc (suc (suc (suc k)))) p = cc
 
-pub not-false : (b : Bool) → not b ≡ false → b ≡ true
-not-false true p = refl
-not-false false p = cc
+pub kind-deck : (k : ℕ) → kind_of k ≡ Some DeckByte → k ≡ 1
+kind-deck zero p = cc
+kind-deck (suc zero) p = refl
+kind-deck (suc (suc zero)) p = cc
+kind-deck (suc (suc (suc zero))) p = cc
+kind-deck (suc (suc (suc (suc k)))) p = cc
+
+pub kind-position : (k : ℕ) → kind_of k ≡ Some Position → k ≡ 2
+kind-position zero p = cc
+kind-position (suc zero) p = cc
+kind-position (suc (suc zero)) p = refl
+kind-position (suc (suc (suc zero))) p = cc
+kind-position (suc (suc (suc (suc k)))) p = cc
+
+pub kind-cassette : (k : ℕ) → kind_of k ≡ Some Cassette → k ≡ 3
+kind-cassette zero p = cc
+kind-cassette (suc zero) p = cc
+kind-cassette (suc (suc zero)) p = cc
+kind-cassette (suc (suc (suc zero))) p = refl
+kind-cassette (suc (suc (suc (suc k)))) p = cc
 
 -- ---- what a well-formed entry has
 
@@ -48,12 +69,14 @@ module _ (e : Entry) (f : formed e ≡ true) where
   formed-position p =
       ltb-true e.content day (both_true (eqb e.flags 0) (ltb e.content day) (sym (fits-position e p) ∙ fits-true)).1
 
-  -- a kind that is none of the first three is the fourth
-  pub formed-kind : (k : ℕ) → e.kind ≡ k → (k ≡ 0 → ⊥) → (k ≡ 1 → ⊥) → (k ≡ 2 → ⊥) → k ≡ 3
-  formed-kind zero p a b c = absurd (a refl)
-  formed-kind (suc zero) p a b c = absurd (b refl)
-  formed-kind (suc (suc zero)) p a b c = absurd (c refl)
-  formed-kind (suc (suc (suc zero))) p a b c = refl
-  formed-kind (suc (suc (suc (suc k)))) p a b c =
-      let n = fits-none e e.kind (λ q. omega arith) (λ q. omega arith) (λ q. omega arith) (λ q. omega arith) in
-      absurd (false≢true (sym n ∙ fits-true))
+  -- it has a kind
+  pub formed-kind : None ≡ kind_of e.kind → ⊥
+  unfolding fits
+  formed-kind n = go e.kind n fits-true
+    where
+      go : (k : ℕ) → None ≡ kind_of k → fits k e ≡ true → ⊥
+      go zero n f = cc
+      go (suc zero) n f = cc
+      go (suc (suc zero)) n f = cc
+      go (suc (suc (suc zero))) n f = cc
+      go (suc (suc (suc (suc k)))) n f = false≢true f

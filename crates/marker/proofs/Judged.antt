@@ -1,11 +1,11 @@
 -- The loop over the entries: what is left of the record leads to the verdict on the whole.
-use Prim.Native.Nat.{ℕ, suc, ◌+◌, ◌-◌, ◌/◌, ◌≤◌, ◌<◌}
-use mathlib.Core.Path.{◌≡◌, refl, sym, ap, ◌∙◌, subst}
-use mathlib.Core.Bool.{true, false, cond}
+use Prim.Native.Nat.{ℕ, suc, ◌+◌, ◌-◌, ◌/◌, ◌≤◌, ◌<◌, ◌^◌}
+use mathlib.Core.Path.{◌≡◌, refl, sym, ap, ◌∙◌}
+use mathlib.Core.Bool.{Bool, true, false, cond}
 use mathlib.Core.List.{List, [], ◌++◌, append-nil}
 use native.Mathlib.Omega.{arith}
 use native.Mathlib.Numerals.{add-one}
-use borrow.Author.Tests.{eq-eqb, ne_eqb}
+use borrow.Author.Tests.{ne_eqb}
 use lib.ListN.{length, take, drop, get_or, set, length-set, drop_of_length-le}
 use lib.Seq.{take-suc-set, drop-set-lt, drop-drop}
 use Rattle.deck.specs.Calls.{view}
@@ -14,13 +14,15 @@ use Rattle.record.specs.Entries.{keep}
 use Rattle.record.specs.Bytes.{entries_of, no_entry}
 use Rattle.record.specs.Machine.{State, Outcome, goes, stops, begin, resting, verdict, follow, judge_from, judge}
 use Rattle.record.proofs.Bytes.{length-entries, entries_from}
-use Rattle.cursor.specs.declared.Taken.{Taken}
-use Rattle.cursor.specs.Cursors.{taken_at}
-use Rattle.cursor.proofs.Places.{moves}
 use Rattle.marker.specs.declared.Marker.{Marker}
-use Rattle.marker.specs.declared.Stepped.{Stepped}
-use Rattle.marker.specs.Steps.{awaited, state, new_marker, outcome, Steps}
-use Rattle.marker.specs.Marks.{Leads}
+use Rattle.marker.specs.declared.Stepped.{Stepped as Taken}
+use Rattle.std.specs.Prelude.{Result, Ok, Err}
+use Rattle.std.specs.Result.{result_err}
+use Rattle.marker.specs.declared.faults.Fault.{Fault}
+use Rattle.marker.specs.Faults.{fault_number, fault_or_0, fault_in}
+use Rattle.marker.specs.Steps.{awaited, state, new_marker, Stepped, stepped, stepped_by, outcome, Steps}
+use Rattle.marker.proofs.Numbers.{above}
+use Rattle.marker.specs.Marks.{Roomy, Leads}
 
 -- the marker before the first entry is the automaton's first state
 pub new-begins : state 0 [] new_marker ≡ begin
@@ -63,72 +65,79 @@ module _ (bytes before table : List ℕ) (m : Marker) (count i : ℕ) (v : Leads
   abbrev s : State
   s = state i (take count table) m
 
-  -- at the end: the place is the number of entries
+  -- at the end
   pub ended : length bytes / 12 ≤ i → (f : ℕ) → f ≡ cond (resting (view m.deck) (awaited m.waits)) 0 26
-      → verdict f (state (length bytes / 12) (take count table) m) ≡ judge es
+      → verdict f s ≡ judge es
   unfolding judge_from
   ended h f p =
-      let all : length bytes / 12 ≡ i = omega (arith, v.within) in
       let none : drop i es ≡ [] = drop_of_length-le es {i = i} (omega (arith, length-entries bytes)) in
-      ap (λ (k : ℕ). verdict f (state k (take count table) m)) all
-      ∙ ap (λ (x : ℕ). verdict x s) p
+      ap (λ (x : ℕ). verdict x s) p
       ∙ sym (ap (λ (l : List Entry). judge_from l s) none)
       ∙ v.leads
 
-  module _ (h : i < length bytes / 12) (r : Stepped) (x : Steps m (get_or es i no_entry) r) where
+  module _ (h : i < length bytes / 12) where
     -- by the outcome of the next entry
-    walk : (o : Outcome) → outcome i (take count table) r ≡ o → follow o s (judge_from (drop (i + 1) es)) ≡ judge es
+    walk : (r : Stepped) → Steps m (get_or es i no_entry) r → (o : Outcome) → outcome i (take count table) r ≡ o
+        → follow o s (judge_from (drop (i + 1) es)) ≡ judge es
     unfolding judge_from
-    walk o p =
+    walk r x o p =
         ap (λ (y : Outcome). follow y s (judge_from (drop (i + 1) es))) (sym p ∙ x.steps i (take count table))
         ∙ sym (ap (λ (l : List Entry). judge_from l s) (entries_from bytes i h))
         ∙ v.leads
 
-    pub faulty : (r.fault ≡ 0 → ⊥) → verdict r.fault s ≡ judge es
-    faulty n = walk (stops r.fault) (rw (ne_eqb r.fault 0 n))
+    pub faulty : (f : Fault) → Steps m (get_or es i no_entry) (stepped_by m (Err f)) → verdict (fault_number f) s ≡ judge es
+    faulty f x = walk (stepped_by m (Err f)) x (stops (fault_number f)) (rw (ne_eqb (fault_number f) 0 (above f)))
 
-    module _ (z : r.fault ≡ 0) where
-      onward : (starts : List ℕ) → take count table ++ keep r.begins i [] ≡ starts
-          → judge_from (drop (i + 1) es) (state (i + 1) starts r.marker) ≡ judge es
+    module _ (t : Taken) (x : Steps m (get_or es i no_entry) (stepped t)) where
+      onward : (starts : List ℕ) → take count table ++ keep t.begins i [] ≡ starts
+          → judge_from (drop (i + 1) es) (state (i + 1) starts t.marker) ≡ judge es
       onward starts p =
-          ap (λ (l : List ℕ). judge_from (drop (i + 1) es) (state (i + 1) l r.marker)) (sym p)
-          ∙ ap (λ (k : ℕ). judge_from (drop (i + 1) es) (state k (take count table ++ keep r.begins i []) r.marker)) (add-one i)
-          ∙ walk (goes (state (suc i) (take count table ++ keep r.begins i []) r.marker)) (rw (eq-eqb r.fault 0 z))
+          ap (λ (l : List ℕ). judge_from (drop (i + 1) es) (state (i + 1) l t.marker)) (sym p)
+          ∙ ap (λ (k : ℕ). judge_from (drop (i + 1) es) (state k (take count table ++ keep t.begins i []) t.marker)) (add-one i)
+          ∙ walk (stepped t) x (goes (state (suc i) (take count table ++ keep t.begins i []) t.marker)) refl
 
-      pub no_start : r.begins ≡ false → Leads bytes before table r.marker count (i + 1)
-      no_start b =
-          record {
-            within = omega arith;
-            few = omega (arith, v.few);
-            size = v.size;
-            leads = onward (take count table) (rw (b, append-nil));
-            rest = v.rest;
-          }
+      -- an entry without a fault
+      pub on : count < length table
+          → Leads bytes before (cond t.begins (set table count i) table) t.marker (cond t.begins (count + 1) count) (i + 1)
+      on c = by t.begins refl
+        where
+          by : (b : Bool) → t.begins ≡ b
+              → Leads bytes before (cond b (set table count i) table) t.marker (cond b (count + 1) count) (i + 1)
+          by true p =
+              record {
+                within = omega arith;
+                few = omega (arith, v.few);
+                size = simp length-set v.size;
+                leads = onward (take (count + 1) (set table count i)) (rw (p, add-one count, take-suc-set));
+                rest =
+                    rw (drop-set-lt (count + 1) table count i (omega arith))
+                    (sym (drop-drop 1 count table) ∙ ap (drop 1) v.rest ∙ drop-drop 1 count before);
+              }
+          by false p =
+              record {
+                within = omega arith;
+                few = omega (arith, v.few);
+                size = v.size;
+                leads = onward (take count table) (rw (p, append-nil));
+                rest = v.rest;
+              }
 
-      pub start : r.begins ≡ true → count < length table → Leads bytes before (set table count i) r.marker (count + 1) (i + 1)
-      start b c =
-          record {
-            within = omega arith;
-            few = omega (arith, v.few);
-            size = simp length-set v.size;
-            leads = onward (take (count + 1) (set table count i)) (rw (b, add-one count, take-suc-set));
-            rest =
-                rw (drop-set-lt (count + 1) table count i (omega arith))
-                (sym (drop-drop 1 count table) ∙ ap (drop 1) v.rest ∙ drop-drop 1 count before);
-          }
+-- no start goes
+pub counts : (b : Bool) (n : ℕ) → n ≤ cond b (n + 1) n
+counts true n = omega arith
+counts false n = omega arith
 
--- the entry that is taken is that of the record, and the place after it is one on
-pub of-record : (bytes : List ℕ) (place : ℕ) (t : Taken) (m : Marker) (r : Stepped) → t ≡ taken_at bytes place
-    → Steps m t.entry r → Steps m (get_or (entries_of bytes) place no_entry) r
-of-record bytes place t m r e s = subst (λ (x : Taken). Steps m x.entry r) e s
+-- the fault that an end has
+pub err-number : {A : Type 0} (r : Result A Fault) → fault_or_0 (result_err r) ≡ fault_in r
+err-number (Ok a) = refl
+err-number (Err f) = refl
 
-pub one-on : (bytes : List ℕ) (place : ℕ) (t : Taken) → t ≡ taken_at bytes place → place < length bytes / 12
-    → t.place ≡ place + 1
-one-on bytes place t e h = ap (λ (x : Taken). x.place) e ∙ moves bytes place h
-
--- after the light entries there is a place for one start more
+-- there is a place for one start more
 pub has-room : {bytes before after : List ℕ} {m : Marker} {count place : ℕ} → Leads bytes before after m count place
-    → place < length bytes / 12 → length bytes ≤ 65532 → length bytes / 12 ≤ length before
-    → (place ≤ 65532) × (count < length after) × (count < 65532)
-has-room v h most room =
-    (omega (arith, v.within), omega (arith, v.few, v.size), omega (arith, v.few, v.within))
+    → place < length bytes / 12 → Roomy bytes before → (place < 2 ^ 32) × (count < length after)
+has-room v h r = (omega (arith, r.short), omega (arith, v.few, v.size, r.room))
+
+-- also in the table as it is now
+pub still-room : {bytes before after : List ℕ} {m : Marker} {count place : ℕ} → Leads bytes before after m count place
+    → Roomy bytes before → Roomy bytes after
+still-room v r = record { short = r.short; room = omega (arith, v.size, r.room) }

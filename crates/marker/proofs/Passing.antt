@@ -1,16 +1,15 @@
 -- A light entry: its step, with no answer of the deck.
 use Prim.Native.Nat.{ℕ, ◌+◌, ◌≤◌, ◌<◌, ◌^◌}
 use mathlib.Core.Path.{◌≡◌, refl, sym, ap, ◌∙◌}
-use mathlib.Core.Bool.{Bool, true, false, not, ◌&&◌, and-true, false≢true}
+use mathlib.Core.Bool.{Bool, true, false, not, ◌&&◌, and-true}
 use native.Mathlib.Omega.{arith}
 use borrow.Author.Tests.{lt-ltb, le-leb, eq-eqb}
 use lib.Dec.{eqb, leb}
 use lib.ListN.{drop}
 use Rattle.deck.specs.declared.Deck.{Deck as Held}
-use Rattle.deck.specs.declared.Joined.{Joined}
 use Rattle.deck.specs.Line.{byte, Answer, silently, is_open, looked, answers}
 use Rattle.deck.specs.Calls.{view}
-use Rattle.deck.specs.Joins.{joins, with_clock, joining}
+use Rattle.deck.specs.Joins.{joins, with_clock, Tried, joining}
 use Rattle.deck.proofs.Made.{made_so}
 use Rattle.deck.proofs.Steps.{look-nothing}
 use Rattle.deck.proofs.Joining.{grows-looked, grows-heard, joining-taken, joins-grows, joins-range, joins-deck, joins-answers, joining-made}
@@ -23,10 +22,6 @@ use Rattle.marker.specs.Steps.{awaited, Acts, Does, late_fault, Steps, Expected}
 use Rattle.record.proofs.Forms.{fits-controller, fits-deck}
 use Rattle.marker.proofs.Tests.{none-held, none-awaited, agrees}
 use Rattle.marker.proofs.Whole.{does, takes, gone}
-
--- of what is not taken, nothing is said
-pub untaken : {A : Type 0} (b : Bool) → b ≡ false → b ≡ true → A
-untaken b p q = absurd (false≢true (sym p ∙ q))
 
 -- told the time, where no time-out is due
 abbrev pub timed : ℕ → Marker → Marker
@@ -67,24 +62,24 @@ module _ (m : Marker) (e : Entry) (c : e.flags ≡ 0) where
 
   -- a byte that joins the block
   pub joins-so : e.kind ≡ 0 → e.content < 256 → some (awaited m.waits).left ≡ false
-      → (j : Joined) → j ≡ joining m.deck e.time e.content → j.taken ≡ true
+      → (j : Tried) → j ≡ joining m.deck e.time e.content → j.taken ≡ true
       → Steps m e (record { fault = 0; begins = eqb m.deck.held 0; marker = record { deck = j.deck; waits = m.waits } })
   joins-so k s n j p y =
       let d = m.deck in
       let x : joins d e.time e.content ≡ true =
-      sym (joining-taken d e.time e.content) ∙ ap (λ (z : Joined). z.taken) (sym p) ∙ y in
+      sym (joining-taken d e.time e.content) ∙ ap (λ (z : Tried). z.taken) (sym p) ∙ y in
       let g = joins-grows d e.time e.content x in
       let r = joins-range d e.time e.content x in
       let l = grows-looked d e.time e.content g in
       let q : Marker = record { deck = j.deck; waits = m.waits } in
       let a : answers (view d) (byte e.time e.content e.flags) ≡ silently (view j.deck) =
       ap (λ (f : ℕ). answers (view d) (byte e.time e.content f)) c ∙ joins-answers d e.time e.content x s
-      ∙ ap (λ (z : Joined). silently (view z.deck)) (sym p) in
+      ∙ ap (λ (z : Tried). silently (view z.deck)) (sym p) in
       let acts : Acts (timed e.time m) e.time (answers (view d) (byte e.time e.content e.flags)) q =
       record {
         deck = sym (ap (λ (z : Answer). z.deck) a);
         waits = sym (ap (λ (z : Answer). await z.replies (awaited m.waits)) a);
-        clock = ap (λ (z : Joined). z.deck.clock) p ∙ ap (λ (z : Held). z.clock) (joins-deck d e.time e.content x);
+        clock = ap (λ (z : Tried). z.deck.clock) p ∙ ap (λ (z : Held). z.clock) (joins-deck d e.time e.content x);
         made = λ z. rw p (joining-made d e.time e.content s (made_so (timed e.time m).deck d refl refl refl z));
       } in
       passes m q e (formed-byte k s r.0) r.1 l (none-awaited (view d) (awaited m.waits) e n (λ z. omega arith))

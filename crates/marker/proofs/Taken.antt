@@ -1,9 +1,9 @@
 -- A record that is taken, and one that is refused.
-use Prim.Native.Nat.{ℕ, suc, ◌/◌, ◌≤◌}
+use Prim.Native.Nat.{ℕ, suc, ◌/◌, ◌≤◌, ◌<◌}
 use mathlib.Core.Path.{◌≡◌, refl, sym, ◌∙◌, subst}
 use mathlib.Core.Bool.{Bool, true, false, cond}
 use mathlib.Core.List.{List}
-use borrow.Author.Tests.{ltb-false}
+use borrow.Author.Tests.{lt-ltb, le-ltb, ltb-false}
 use lib.Dec.{ltb}
 use lib.ListN.{length}
 use Rattle.record.specs.Bytes.{entries_of, is_record}
@@ -21,6 +21,20 @@ passed n m false e = (cc, cc)
 enough : (a : Bool) → cond {A = ℕ} a 1 0 ≡ 0 → a ≡ false
 enough true e = cc
 enough false e = refl
+
+module _ (size room : ℕ) where
+  pub no_record : is_record size ≡ false → 10 ≡ refusal size room
+  unfolding refusal
+  no_record p = rw p
+
+  module _ (p : is_record size ≡ true) where
+    pub no_room : room < size / 12 → 1 ≡ refusal size room
+    unfolding refusal
+    no_room h = rw (p, lt-ltb room (size / 12) h)
+
+    pub fit : size / 12 ≤ room → 0 ≡ refusal size room
+    unfolding refusal
+    fit h = rw (p, le-ltb room (size / 12) h)
 
 pub fitting : (size room : ℕ) → refusal size room ≡ 0 → (size ≤ 65532) × (size / 12 ≤ room)
 unfolding refusal

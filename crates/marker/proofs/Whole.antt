@@ -3,7 +3,6 @@ use Prim.Native.Nat.{ℕ, zero, suc, ◌+◌, ◌≤◌, ◌<◌}
 use mathlib.Core.Path.{◌≡◌, refl, sym, ap, ap₂, ◌∙◌}
 use mathlib.Core.Bool.{Bool, true, false, not, ◌&&◌}
 use mathlib.Core.List.{List, [], ◌++◌}
-use native.Mathlib.Omega.{arith}
 use borrow.Author.Tests.{lt-ltb, le-ltb, ne_eqb}
 use lib.Dec.{leb}
 use lib.ListN.{drop}
@@ -14,12 +13,17 @@ use Rattle.deck.proofs.Steps.{acted-other, answers-soon}
 use Rattle.deck.proofs.Cases.{looked-again}
 use Rattle.record.specs.declared.Entry.{Entry}
 use Rattle.record.specs.Entries.{formed, handed_as, handed, after_entry, keep, is_controller}
-use Rattle.record.specs.Machine.{Waiting, waiting, await, took, peek, advance, begins, tests, fault_of, goes, onward, step}
+use Rattle.record.specs.Machine.{Waiting, waiting, await, took, peek, advance, begins, tests, fault_of, State, goes, stops, onward, step}
 use Rattle.record.specs.Machine.{outcome as outcome_of}
 use Rattle.record.proofs.Handed.{after_is}
 use Rattle.marker.specs.declared.Marker.{Marker}
-use Rattle.marker.specs.declared.Stepped.{Stepped}
-use Rattle.marker.specs.Steps.{awaited, state, Acts, Does, late_fault, Steps}
+use Rattle.std.specs.Prelude.{Result, Ok, Err}
+use Rattle.std.specs.Result.{IsErrAnd}
+use Rattle.marker.specs.declared.Stepped.{Stepped as Taken}
+use Rattle.marker.specs.declared.faults.Fault.{Fault}
+use Rattle.marker.specs.Faults.{fault_number}
+use Rattle.marker.specs.Steps.{awaited, state, Acts, Does, late_fault, stepped_by, Steps}
+use Rattle.marker.proofs.Numbers.{above}
 
 -- ---- the entry itself
 
@@ -80,17 +84,25 @@ module _ (m : Marker) (e : Entry) where
   unfolding fault_of tests late_fault
   later f t = rw (f, le-ltb e.time m.deck.clock t)
 
-  pub stopped : (r : Stepped) (f : ℕ) → (f ≡ 0 → ⊥) → fault ≡ f → (r.fault ≡ f) × (r.begins ≡ false) × (r.marker ≡ m) → Steps m e r
+  stops-at : (n : ℕ) (s : State) → (n ≡ 0 → ⊥) → outcome_of n s e ≡ stops n
+  stops-at zero s z = absurd (z refl)
+  stops-at (suc n) s z = refl
+
+  pub stopped : (f : Fault) → fault ≡ fault_number f → Steps m e (stepped_by m (Err f))
   unfolding step
-  stopped r zero n p q = absurd (n refl)
-  stopped r (suc f) n p q =
+  stopped f p =
       record {
         steps = λ taken starts.
-            rw (ne_eqb r.fault 0 (λ z. omega (arith, q.0)), q.0)
-            (sym (ap (λ (x : ℕ). outcome_of x (state taken starts m) e) p));
-        same = λ _. (q.1, q.2);
-        made = λ k. rw q.2 k;
+            rw (ne_eqb (fault_number f) 0 (above f))
+            (sym (ap (λ (x : ℕ). outcome_of x (state taken starts m) e) p ∙ stops-at (fault_number f) (state taken starts m) (above f)));
+        same = λ _. (refl, refl);
+        made = λ k. k;
       }
+
+  -- handed on by `?`
+  pub faulted : (f : Fault) → fault ≡ fault_number f → (r : Result Taken Fault) → IsErrAnd r (λ g. g ≡ f) → Steps m e (stepped_by m r)
+  faulted f p (Ok t) q = absurd q
+  faulted f p (Err g) q = stopped g (p ∙ ap fault_number (sym q))
 
   -- after the look
   module _ (n : Marker) (l : Acts m e.time (looked d e.time) n) where

@@ -1,3 +1,4 @@
 -- What the contracts of `marker` mean.
+pub mod Faults
 pub mod Steps
 pub mod Marks

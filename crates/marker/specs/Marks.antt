@@ -1,11 +1,16 @@
 -- Document 01, "Line record and turns" and "Numbers that calls return": what the marker hands out.
-use Rattle.std.specs.Prelude.{ℕ, ◌/◌, ◌≤◌, ◌≡◌, cond, List, ltb, length, take, drop}
-use Rattle.record.specs.Bytes.{entries_of, is_record}
+use Rattle.std.specs.Prelude.{ℕ, ◌/◌, ◌≤◌, ◌<◌, ◌≡◌, Bool, cond, List, Result, Ok, Err, ltb, length, take, drop, get_or}
+use Rattle.refusal.specs.declared.Refusal.{Refusal}
+use Rattle.refusal.specs.Numbers.{number_of}
+use Rattle.record.specs.Bytes.{entries_of, no_entry, is_record}
 use Rattle.record.specs.Marks.{Demand3}
 use Rattle.record.specs.Machine.{Verdict, judge_from, judge}
 use Rattle.marker.specs.declared.Marker.{Marker}
+use Rattle.marker.specs.declared.Findings.{Findings}
 use Rattle.marker.specs.declared.Marked.{Marked}
-use Rattle.marker.specs.Steps.{state}
+use Rattle.marker.specs.declared.reading.Reading.{Reading}
+use Rattle.marker.specs.Faults.{fault_or_0}
+use Rattle.marker.specs.Steps.{state, fills_block}
 
 -- 10 RECORD: "record not a multiple of 12 bytes, or over 65,532"; 1 ROOM: "fewer places than entries"; "marker: 10, 1"
 unfoldable pub refusal : (size room : ℕ) → ℕ
@@ -15,9 +20,19 @@ refusal size room = cond (is_record size) (cond (ltb room (size / 12)) 1 0) 10
 abbrev pub nothing : ℕ → Marked
 nothing n = record { no = n; fault = 0; place = 0; count = 0 }
 
+-- what `mark` answers, in these numbers
+abbrev pub marked_by : Result Findings Refusal → Marked
+marked_by (Ok f) = record { no = 0; fault = fault_or_0 f.fault; place = f.place; count = f.count }
+marked_by (Err e) = nothing (number_of e)
+
 -- "verdict, place and count": the automaton's, with the starts at the front of the table
 abbrev pub verdict_of : Marked → List ℕ → Verdict
 verdict_of r table = record { fault = r.fault; place = r.place; starts = take r.count table }
+
+-- a record of no more bytes than one may have, and a table with a place for each of its entries
+pub record Roomy (bytes table : List ℕ) : Type 0 where
+  pub short : length bytes ≤ 65532
+  pub room : length bytes / 12 ≤ length table
 
 -- after i entries, with `count` turn starts at the front of the table, which held `before`: what is left of the record leads to
 -- the verdict on the whole
@@ -27,6 +42,14 @@ pub record Leads (bytes before table : List ℕ) (m : Marker) (count i : ℕ) : 
   pub size : length table ≡ length before
   pub leads : judge_from (drop i (entries_of bytes)) (state i (take count table) m) ≡ judge (entries_of bytes)
   pub rest : drop count table ≡ drop count before
+
+-- from one reading to a later one: so far the entries lead to the verdict on the whole, and where an entry is next it is known
+-- whether it fills the block
+pub record Passes (bytes before : List ℕ) (from : Reading) (r : Reading × Bool) (after : List ℕ) : Type 0 where
+  pub leads : Leads bytes before after r.0.marker r.0.count r.0.place
+  pub more : from.count ≤ r.0.count
+  pub onward : from.place ≤ r.0.place
+  pub fills : r.0.place < length bytes / 12 → r.1 ≡ fills_block r.0.marker (get_or (entries_of bytes) r.0.place no_entry)
 
 -- the entries one after the other; `before` and `after` are what the table holds
 pub record Runs (bytes before : List ℕ) (r : Marked) (after : List ℕ) : Type 0 where

@@ -1,17 +1,21 @@
 -- The code's marker, and what a step has to come to: a step of the automaton of `record`.
 use Rattle.std.specs.Prelude.{ℕ, suc, ◌+◌, ◌≤◌, ◌<◌, ◌^◌, ◌≡◌, Bool, true, false, cond, not, ◌&&◌, List, [], ◌∷◌, ◌++◌, eqb, ltb, leb, take, get_or}
+use Rattle.std.specs.Prelude.{Option, Some, None, Result, Ok, Err, IfSome}
 use Rattle.packed.specs.Packed.{packed, unpacked}
 use Rattle.deck.specs.declared.Sent.{Sent}
-use Rattle.deck.specs.Line.{Deck, Answer, is_open, acted}
-use Rattle.deck.specs.Calls.{view, new_deck, Made}
+use Rattle.deck.specs.Line.{Deck, Answer, is_open, silently, looked, acted}
+use Rattle.deck.specs.Calls.{view, new_deck, Returned, Made}
 use Rattle.deck.specs.Joins.{filling}
 use Rattle.record.specs.declared.Entry.{Entry}
 use Rattle.record.specs.Entries.{handed, keep, is_controller, is_deck}
 use Rattle.record.specs.Machine.{Waiting, waiting, some, await, took, first_true, State, Outcome, goes, stops, step}
 use Rattle.marker.specs.declared.Waits.{Waits}
 use Rattle.marker.specs.declared.Marker.{Marker}
-use Rattle.marker.specs.declared.Stepped.{Stepped}
-use Rattle.marker.specs.declared.Weighed.{Weighed}
+use Rattle.marker.specs.declared.Stepped.{Stepped as Taken}
+use Rattle.marker.specs.declared.faults.Fault.{Fault}
+use Rattle.marker.specs.declared.light.Weighed.{Weighed}
+use Rattle.marker.specs.declared.light.Weighed.TheVariants.{Light, Fills, Heavy}
+use Rattle.marker.specs.Faults.{fault_number}
 
 -- ---- the code's marker
 
@@ -29,9 +33,26 @@ new_marker = record { deck = new_deck; waits = record { reply = packed []; left 
 
 -- ---- the parts of a step
 
--- what is awaited after the reply that stands at the front of the output; one of no bytes is none
-abbrev pub heard : Sent → List ℕ → Waiting → Waiting
-heard sent out w = cond (eqb sent.len 0) w (waiting (take sent.len out) (sent.due + 9000))
+-- the next byte of what is to come, if there is one
+abbrev pub front : List ℕ → Option ℕ
+front [] = None
+front (b ∷ left) = Some b
+
+-- what is awaited after the reply that stands at the front of the output, if there is one
+abbrev pub heard : Option Sent → List ℕ → Waiting → Waiting
+heard None out w = w
+heard (Some sent) out w = waiting (take sent.len out) (sent.due + 9000)
+
+-- a call that the deck takes, and its reply, if there is one, is due in range
+pub record Prompt (r : Returned) : Type 0 where
+  pub taken : r.no ≡ 0
+  pub due : IfSome r.first (λ s. s.due < 2 ^ 48)
+
+-- the deck has been told the time t, and finds no time-out at it
+pub record Timed (m : Marker) (t : ℕ) : Type 0 where
+  pub clock : m.deck.clock ≡ t
+  pub range : t < 2 ^ 48
+  pub silent : looked (view m.deck) t ≡ silently (view m.deck)
 
 -- after the deck's answer at t
 pub record Acts (m : Marker) (t : ℕ) (a : Answer) (r : Marker) : Type 0 where
@@ -59,6 +80,20 @@ late_fault d w e =
 
 -- ---- a step
 
+-- an entry's fault, 0 if it has none; whether it begins a turn; and the marker after it, the same where there is a fault
+pub record Stepped : Type 0 where
+  pub fault : ℕ
+  pub begins : Bool
+  pub marker : Marker
+
+-- one that is taken has no fault
+abbrev pub stepped : Taken → Stepped
+stepped s = record { fault = 0; begins = s.begins; marker = s.marker }
+
+abbrev pub stepped_by : Marker → Result Taken Fault → Stepped
+stepped_by m (Ok s) = stepped s
+stepped_by m (Err f) = record { fault = fault_number f; begins = false; marker = m }
+
 abbrev pub outcome : ℕ → List ℕ → Stepped → Outcome
 outcome taken starts r =
     cond (eqb r.fault 0)
@@ -84,10 +119,6 @@ pub record Expected (m : Marker) (e : Entry) : Type 0 where
   pub next : e.content ≡ get_or (awaited m.waits).left 0 0
   pub small : e.content < 256
 
--- one that is taken has no fault
-abbrev pub stepped : Weighed → Stepped
-stepped r = record { fault = 0; begins = r.begins; marker = r.marker }
-
 -- ---- an entry that fills the block
 
 -- a clean controller byte that fills it, where no reply is awaited
@@ -95,3 +126,9 @@ unfoldable pub fills_block : Marker → Entry → Bool
 fills_block m e =
     is_controller e.kind && (eqb e.flags 0 && (ltb e.content 256
     && (not (some (awaited m.waits).left) && filling 18 m.deck e.time e.content)))
+
+-- what is said of an entry that is weighed: a light one is taken and does not fill the block; of another, whether it fills it
+abbrev pub Weighs : Marker → Entry → Weighed → Type 0
+Weighs m e (Light s) = Steps m e (stepped s) × (fills_block m e ≡ false)
+Weighs m e Fills = fills_block m e ≡ true
+Weighs m e Heavy = fills_block m e ≡ false

@@ -1,17 +1,21 @@
 // The marker: reads a line record and finds its turns, or the first place that no sound record can get past.
 #![tactic(auto)]
 
-ghost use Rattle.std.specs.Prelude.{◌≡◌, cond, ◌/◌, ◌≤◌, ◌<◌, length, get_or};
-ghost use Rattle.record.specs.Bytes.{entries_of, no_entry};
+ghost use Rattle.std.specs.Prelude.{◌≡◌, cond};
 ghost use Rattle.record.specs.Machine.{resting};
 ghost use Rattle.deck.specs.Calls.{view};
-ghost use Rattle.marker.specs.Steps.{awaited, new_marker, fills_block};
-ghost use Rattle.marker.specs.Marks.{refusal, Leads, Runs, Marks};
+ghost use Rattle.marker.specs.Faults.{fault_in};
+ghost use Rattle.marker.specs.Steps.{awaited, new_marker};
+ghost use Rattle.marker.specs.Marks.{marked_by, Marks};
 
 use deck::Deck;
+pub use faults::Fault;
 use packed::Packed;
+use refusal::Refusal;
 
+mod faults;
 mod light;
+mod reading;
 mod reply;
 mod step;
 
@@ -30,33 +34,23 @@ pub struct Marker {
     pub waits: Waits,
 }
 
-// An entry's fault, 0 if it has none; whether it begins a turn; and the marker after it, the same where there is a fault.
+// An entry without a fault: whether it begins a turn, and the marker after it.
 #[derive(Clone, Copy)]
 pub struct Stepped {
-    pub fault: u8,
     pub begins: bool,
     pub marker: Marker,
 }
 
-// Whether an entry is light; whether it is not, but fills the block. Of a light one: whether it begins a turn, and the marker after it.
-#[derive(Clone, Copy)]
-struct Weighed {
-    taken: bool,
-    fills: bool,
-    begins: bool,
-    marker: Marker,
+// What is found in a record: its fault, if it has one; the fault's place, or else the number of entries; and how many turn starts
+// stand at the front of the table.
+#[derive(Clone, Copy, Debug, PartialEq, Eq)]
+pub struct Findings {
+    pub fault: Option<Fault>,
+    pub place: usize,
+    pub count: usize,
 }
 
-// Where the light entries end: whether the next one fills the block, the place, the turn starts so far and the marker.
-#[derive(Clone, Copy)]
-struct Passed {
-    fills: bool,
-    place: usize,
-    count: usize,
-    marker: Marker,
-}
-
-// The number; then the fault, 0 if the record is sound, its place, and how many turn starts stand at the front of the table.
+// The same in document 01's numbers: 0 for no refusal, and for no fault.
 #[derive(Clone, Copy)]
 pub struct Marked {
     pub no: u8,
@@ -65,11 +59,32 @@ pub struct Marked {
     pub count: usize,
 }
 
-const ROOM: u8 = 1;
+impl From<Result<Findings, Refusal>> for Marked {
+    ghost from_gives = { λ found marked. marked ≡ marked_by found };
 
-const RECORD: u8 = 10;
-
-const STOPS: u8 = 26;
+    fn from(found: Result<Findings, Refusal>) -> Marked {
+        match found {
+            Ok(
+                Findings {
+                    fault,
+                    place,
+                    count,
+                },
+            ) => Marked {
+                no: 0,
+                fault: fault.map_or(0, |fault| fault.number()),
+                place,
+                count,
+            },
+            Err(refusal) => Marked {
+                no: refusal.number(),
+                fault: 0,
+                place: 0,
+                count: 0,
+            },
+        }
+    }
+}
 
 impl Marker {
     // Before the first entry.
@@ -86,126 +101,26 @@ impl Marker {
         }
     }
 
-    // The fault of a record that ends here, 0 if it may: no block is open and nothing is awaited.
-    pub fn ends(self) -> u8
-        ensures { result ≡ cond (resting (view self.deck) (awaited self.waits)) 0 26 }
+    // A record may end here if no block is open and nothing is awaited.
+    pub fn ends(self) -> Result<(), Fault>
+        ensures { fault_in result ≡ cond (resting (view self.deck) (awaited self.waits)) 0 26 }
     {
-        let deck = self.deck;
-        if deck.held != 0 {
-            return STOPS;
+        if self.deck.held != 0 || self.waits.any() {
+            return Err(Fault::Stops);
         }
-        let waits = self.waits;
-        if waits.any() {
-            return STOPS;
-        }
-        0
+        Ok(())
     }
 }
 
-// The number that refuses a record of so many bytes with so many places in the table.
-fn refusal(size: usize, room: usize) -> u8
-    ensures { result ≡ refusal size room }
+// Writes the turn starts to the front of the table, which needs a place for each entry.
+pub fn mark(bytes: &[u8], table: &mut [u32]) -> Result<Findings, Refusal>
+    ensures { Marks bytes.now table.old (marked_by result) table.new }
 {
-    if !record::is_record(size) {
-        return RECORD;
+    if !record::is_record(bytes.len()) {
+        return Err(Refusal::Record);
     }
-    if room < size / 12 {
-        return ROOM;
+    if table.len() < bytes.len() / 12 {
+        return Err(Refusal::Room);
     }
-    0
-}
-
-// The light entries from this place on, to the first that is not light or the end.
-fn pass(bytes: &[u8], table: &mut [u32], from: Marker, counted: usize, at: usize) -> Passed
-    requires { (length bytes.now ≤ 65532) × (length bytes.now / 12 ≤ length table.old)
-        × Leads bytes.now table.old table.old from counted at }
-    ensures { Leads bytes.now table.old table.new result.marker result.count result.place
-        × (counted ≤ result.count) × (at ≤ result.place)
-        × (result.place < length bytes.now / 12
-        → result.fills ≡ fills_block result.marker (get_or (entries_of bytes.now) result.place no_entry)) }
-{
-    let n = bytes.len() / 12;
-    let mut marker = from;
-    let mut count = counted;
-    let mut place = at;
-    while place < n {
-        let t = cursor::take(bytes, place);
-        let l = marker.light(t.entry);
-        if !l.taken {
-            return Passed {
-                fills: l.fills,
-                place: place,
-                count: count,
-                marker: marker,
-            };
-        }
-        marker = l.marker;
-        if l.begins {
-            table[count] = place as u32;
-            count += 1;
-        }
-        place = t.place;
-    }
-    Passed {
-        fills: false,
-        place: place,
-        count: count,
-        marker: marker,
-    }
-}
-
-// The entries one after the other, to the first fault or the end.
-fn run(bytes: &[u8], table: &mut [u32]) -> Marked
-    requires { (length bytes.now ≤ 65532) × (length bytes.now / 12 ≤ length table.old) }
-    ensures { Runs bytes.now table.old result table.new }
-{
-    let n = bytes.len() / 12;
-    let mut marker = Marker::start();
-    let mut count: usize = 0;
-    let mut i: usize = 0;
-    while i < n {
-        let p = pass(bytes, table, marker, count, i);
-        marker = p.marker;
-        count = p.count;
-        i = p.place;
-        if i < n {
-            let t = cursor::take(bytes, i);
-            let r = marker.go(t.entry, p.fills);
-            if r.fault != 0 {
-                return Marked {
-                    no: 0,
-                    fault: r.fault,
-                    place: i,
-                    count: count,
-                };
-            }
-            marker = r.marker;
-            if r.begins {
-                table[count] = i as u32;
-                count += 1;
-            }
-            i = t.place;
-        }
-    }
-    Marked {
-        no: 0,
-        fault: marker.ends(),
-        place: n,
-        count: count,
-    }
-}
-
-pub fn mark(bytes: &[u8], table: &mut [u32]) -> Marked
-    ensures { Marks bytes.now table.old result table.new }
-{
-    let no = refusal(bytes.len(), table.len());
-    if no != 0 {
-        return Marked {
-            no: no,
-            fault: 0,
-            place: 0,
-            count: 0,
-        };
-    }
-    run(bytes, table)
+    Ok(reading::run(bytes, table))
 }

@@ -1,7 +1,7 @@
 // What is awaited of a reply.
-ghost use Rattle.std.specs.Prelude.{◌≡◌, ◌+◌, ◌<◌, ◌^◌, drop, get_or};
+ghost use Rattle.std.specs.Prelude.{◌≡◌, ◌+◌, ◌<◌, ◌^◌, drop, IfSome};
 ghost use Rattle.record.specs.Machine.{waiting, some};
-ghost use Rattle.marker.specs.Steps.{awaited, heard};
+ghost use Rattle.marker.specs.Steps.{awaited, front, heard};
 
 use super::Waits;
 use deck::Sent;
@@ -15,50 +15,46 @@ impl Waits {
         self.left != 0
     }
 
-    // The next byte, 0 if there is none.
-    pub(super) fn next(self) -> u8
-        ensures { result ≡ get_or (awaited self).left 0 0 }
+    // The next byte.
+    pub(super) fn next(self) -> Option<u8>
+        ensures { result ≡ front (awaited self).left }
     {
-        if self.left == 0 {
-            return 0;
+        if !self.any() {
+            return None;
         }
-        let reply = self.reply;
-        reply.first()
+        Some(self.reply.first())
     }
 
     // A byte has come.
-    pub(super) fn taken(mut self, time: u64) -> Waits
+    pub(super) fn taken(self, time: u64) -> Waits
         requires { time < 2 ^ 48 }
         ensures { awaited result ≡ waiting (drop 1 (awaited self).left) (time + 10000) }
     {
-        self.latest = time + 10000;
-        if self.left == 0 {
-            return self;
+        let (reply, left) = match self.left {
+            0 => (self.reply, 0),
+            1..=8 => (self.reply.low_rest(), self.left - 1),
+            // A count over 24 stands for 24.
+            _ => (self.reply.rest(), self.left.min(24) - 1),
+        };
+        Waits {
+            reply,
+            left,
+            latest: time + 10000,
         }
-        let reply = self.reply;
-        if self.left <= 8 {
-            self.reply = reply.low_rest();
-            self.left -= 1;
-            return self;
-        }
-        // A count over 24 stands for 24.
-        self.reply = reply.rest();
-        self.left = if self.left < 24 { self.left - 1 } else { 23 };
-        self
     }
 
     // The deck has sent a reply, which stands at the front of the output, or none.
-    pub(super) fn after(self, sent: Sent, out: [u8; 24]) -> Waits
-        requires { sent.due < 2 ^ 48 }
+    pub(super) fn after(self, sent: Option<Sent>, out: [u8; 24]) -> Waits
+        requires { IfSome sent (λ s. s.due < 2 ^ 48) }
         ensures { awaited result ≡ heard sent out (awaited self) }
     {
-        if sent.len == 0 {
-            return self;
-        }
-        Waits {
-            reply: Packed::pack(out),
-            left: sent.len,
-            latest: sent.due + 9000,
+        match sent {
+            None => self,
+            Some(sent) => Waits {
+                reply: Packed::pack(out),
+                left: sent.len,
+                latest: sent.due + 9000,
+            },
         }
     }
 }

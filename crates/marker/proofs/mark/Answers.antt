@@ -1,22 +1,27 @@
 -- `mark` meets its contract.
-use mathlib.Core.Path.{sym, ◌∙◌}
-use Rattle.marker.proofs.Taken.{fitting, refuses, takes}
+use mathlib.Core.Path.{refl, sym, ◌∙◌}
+use native.Mathlib.Omega.{arith}
+use Rattle.record.proofs.Bytes.{record-short}
+use Rattle.marker.proofs.Taken.{no_record, no_room, fit, refuses, takes}
 use Rattle.marker.proofs.mark.Goals as goal
 
-pub returns-then-no-ne0 : goal.returns-then-no-ne0
-returns-then-no-ne0 c =
-    let a = c.args in
-    let n = c.refusal-no in
-    refuses a.bytes.now a.table.now n.result n.ensures c.if-no-ne0.true
+pub returns-then-not-is_record : goal.returns-then-not-is_record
+returns-then-not-is_record c =
+    refuses c.args.bytes.now c.args.table.now 10 (no_record _ _ (sym c.is_record.ensures ∙ c.if-not-is_record.true)) (λ z. omega arith)
+
+pub returns-then-table-bytes : goal.returns-then-table-bytes
+returns-then-table-bytes c =
+    refuses c.args.bytes.now c.args.table.now 1
+    (no_room _ _ (sym c.is_record.ensures ∙ c.if-not-is_record.false) c.if-table-bytes.true) (λ z. omega arith)
 
 pub run-requires : goal.run-requires
 run-requires c =
-    let n = c.refusal-no in
-    fitting _ _ (sym n.ensures ∙ c.if-no-ne0.false)
+    record {
+      short = record-short _ (sym c.is_record.ensures ∙ c.if-not-is_record.false);
+      room = c.if-table-bytes.false;
+    }
 
 pub returns : goal.returns
 returns c =
-    let a = c.args in
-    let n = c.refusal-no in
-    let r = c.run in
-    takes a.bytes.now a.table.now n.result n.ensures c.if-no-ne0.false r.result _ r.ensures
+    takes c.args.bytes.now c.args.table.now 0
+    (fit _ _ (sym c.is_record.ensures ∙ c.if-not-is_record.false) c.if-table-bytes.false) refl _ _ c.run.ensures

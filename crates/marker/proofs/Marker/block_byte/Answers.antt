@@ -1,43 +1,46 @@
 -- `Marker::block_byte` meets its contract: what the deck takes as a byte that joins the block is no more than that.
-use mathlib.Core.Path.{sym, ap, ◌∙◌}
+use mathlib.Core.Path.{refl, sym, ap, ◌∙◌}
 use native.Mathlib.Omega.{arith}
-use borrow.Author.Tests.{not-false}
-use Rattle.deck.specs.declared.Joined.{Joined}
-use Rattle.deck.proofs.Joining.{joining-taken, joining-fills}
-use Rattle.marker.proofs.Passing.{untaken, joins-so}
-use Rattle.marker.proofs.Filled.{unfilled-content, unfilled-waits, deck-fills, joins-unfilled}
+use Rattle.std.specs.Prelude.{Ok}
+use Rattle.deck.specs.declared.Joined.TheVariants.{Taken, Fills}
+use Rattle.deck.specs.Joins.{tried}
+use Rattle.marker.proofs.Passing.{joins-so}
+use Rattle.marker.proofs.Filled.{unfilled-content, unfilled-waits, joined-fills}
 use Rattle.marker.proofs.Marker.block_byte.Goals as goal
+use Rattle.marker.proofs.Marker.block_byte.Goals.{then-e-gt255-via-then-e-gt255, then-e-gt255-via-else-e-gt255+then-any}
 
 pub returns-then-e-gt255 : goal.returns-then-e-gt255
 returns-then-e-gt255 c =
-    let h = c.heavy.ensures in
-    let a = c.args in
-    (untaken _ h.0, h.1 ∙ unfilled-content a.self a.e c.if-e-gt255.true)
+    elim c.then-e-gt255.branch [
+      | then-e-gt255-via-then-e-gt255 w ↦ unfilled-content c.args.self c.args.e w.if-e-gt255.true
+      | then-e-gt255-via-else-e-gt255+then-any w ↦ unfilled-waits c.args.self c.args.e (sym w.any.ensures ∙ w.if-any.true)
+    ]
 
-pub returns-then-any : goal.returns-then-any
-returns-then-any c =
-    let h = c.heavy-then-any.ensures in
+pub returns-in-Ok-Taken : goal.returns-in-Ok-Taken
+returns-in-Ok-Taken c =
     let a = c.args in
-    (untaken _ h.0, h.1 ∙ unfilled-waits a.self a.e (sym c.any.ensures ∙ c.if-any.true))
-
-pub returns-then-not-joined : goal.returns-then-not-joined
-returns-then-not-joined c =
-    let h = c.heavy-then-not-joined.ensures in
-    let a = c.args in
-    let f = ap (λ (x : Joined). x.fills) c.join-joined.ensures ∙ joining-fills a.self.deck a.e.time a.e.content in (
-      untaken _ h.0,
-      h.1 ∙ f
-          ∙ deck-fills a.self a.e c.requires.0 c.requires.1 (omega (arith, c.if-e-gt255.false)) (sym c.any.ensures ∙ c.if-any.false),
+    let none = sym c.any.ensures ∙ c.if-any.false in
+    let j = tried a.self.deck (Ok (Taken c.in-Ok-Taken.deck)) in
+    let p = ap (tried a.self.deck) (sym (ap Ok c.in-Ok-Taken.field-0-is) ∙ sym c.in-Ok-Taken.is) ∙ c.join.ensures in (
+      joins-so a.self a.e c.requires.1 c.requires.0 (omega (arith, c.if-e-gt255.false)) none j p refl,
+      joined-fills a.self a.e c.requires.0 c.requires.1 (omega (arith, c.if-e-gt255.false)) none j p,
     )
 
-pub returns : goal.returns
-returns c =
+pub returns-in-Ok-Fills : goal.returns-in-Ok-Fills
+returns-in-Ok-Fills c =
     let a = c.args in
-    let d = a.self.deck in
-    let w = sym c.any.ensures ∙ c.if-any.false in
-    let k = not-false _ c.if-not-joined.false in
-    let g = sym (joining-taken d a.e.time a.e.content) ∙ ap (λ (x : Joined). x.taken) (sym c.join-joined.ensures) ∙ k in (
-      λ p. joins-so a.self a.e c.requires.1 c.requires.0 (omega (arith, c.if-e-gt255.false)) w c.join-joined.result c.join-joined.ensures k,
-      sym (joins-unfilled d a.e.time a.e.content g)
-          ∙ deck-fills a.self a.e c.requires.0 c.requires.1 (omega (arith, c.if-e-gt255.false)) w,
-    )
+    joined-fills a.self a.e c.requires.0 c.requires.1 (omega (arith, c.if-e-gt255.false)) (sym c.any.ensures ∙ c.if-any.false)
+    (tried a.self.deck (Ok Fills))
+    (ap (tried a.self.deck) (sym (ap Ok c.in-Ok-Fills.field-0-is) ∙ sym c.in-Ok-Fills.is) ∙ c.join.ensures)
+
+pub returns-in_default : goal.returns-in_default
+returns-in_default c =
+    let a = c.args in
+    joined-fills a.self a.e c.requires.0 c.requires.1 (omega (arith, c.if-e-gt255.false)) (sym c.any.ensures ∙ c.if-any.false)
+    (tried a.self.deck c.join.result) c.join.ensures ∙ grind arith
+
+pub returns-in_default-2 : goal.returns-in_default-2
+returns-in_default-2 c =
+    let a = c.args in
+    joined-fills a.self a.e c.requires.0 c.requires.1 (omega (arith, c.if-e-gt255.false)) (sym c.any.ensures ∙ c.if-any.false)
+    (tried a.self.deck c.join.result) c.join.ensures ∙ rw c.in_default.is

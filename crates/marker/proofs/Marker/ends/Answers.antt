@@ -3,21 +3,20 @@ use Rattle.deck.proofs.Held.{opened}
 use Rattle.record.specs.Machine.{resting}
 use Rattle.marker.proofs.Tests.{shut}
 use Rattle.marker.proofs.Marker.ends.Goals as goal
+use Rattle.marker.proofs.Marker.ends.Goals.{then-self-ne0-via-then-self-ne0, then-self-ne0-via-else-self-ne0+then-any}
 
-pub returns-then-deck-ne0 : goal.returns-then-deck-ne0
+pub returns-then-self-ne0 : goal.returns-then-self-ne0
 unfolding resting
-returns-then-deck-ne0 c =
+returns-then-self-ne0 c =
     let d = c.args.self.deck in
-    rw (opened d.held d.first d.tail c.if-deck-ne0.true)
-
-pub returns-then-any : goal.returns-then-any
-unfolding resting
-returns-then-any c =
-    let d = c.args.self.deck in
-    rw (shut d.held d.first d.tail c.if-deck-ne0.false, ← c.any.ensures, c.if-any.true)
+    elim c.then-self-ne0.branch [
+      | then-self-ne0-via-then-self-ne0 w ↦ rw (opened d.held d.first d.tail w.if-self-ne0.true)
+      | then-self-ne0-via-else-self-ne0+then-any w ↦
+          rw (shut d.held d.first d.tail w.if-self-ne0.false, ← w.any.ensures, w.if-any.true)
+    ]
 
 pub returns : goal.returns
 unfolding resting
 returns c =
     let d = c.args.self.deck in
-    rw (shut d.held d.first d.tail c.if-deck-ne0.false, ← c.any.ensures, c.if-any.false)
+    rw (shut d.held d.first d.tail c.if-self-ne0.false, ← c.any.ensures, c.if-any.false)

@@ -2,20 +2,12 @@
 use mathlib.Core.Path.{sym, ◌∙◌}
 use Rattle.deck.specs.Calls.{view}
 use Rattle.marker.specs.Steps.{awaited}
-use Rattle.marker.proofs.Tests.{unawaited, none-awaited}
+use Rattle.marker.proofs.Left.{some-next}
+use Rattle.marker.proofs.Tests.{overdue}
 use Rattle.marker.proofs.Marker.fault.Goals as goal
 
-pub owed-requires : goal.owed-requires
-owed-requires c = sym c.any.ensures ∙ c.if-any.true
-
-pub returns-then-e-eq1 : goal.returns-then-e-eq1
-returns-then-e-eq1 c =
-    let a = c.args in
-    let s = sym c.any.ensures ∙ c.if-any.false in
-    sym (unawaited (view a.self.deck) (awaited a.self.waits) a.e s c.if-e-eq1.true)
-
-pub returns : goal.returns
-returns c =
-    let a = c.args in
-    let s = sym c.any.ensures ∙ c.if-any.false in
-    sym (none-awaited (view a.self.deck) (awaited a.self.waits) a.e s c.if-e-eq1.false)
+pub returns-then-self-e : goal.returns-then-self-e
+returns-then-self-e c =
+    let m = c.args.self in
+    let s = some-next (awaited m.waits).left c.in-Some.next (sym c.in-Some.is ∙ c.next.ensures) in
+    sym (overdue (view m.deck) (awaited m.waits) c.args.e s.0 c.if-self-e.true)

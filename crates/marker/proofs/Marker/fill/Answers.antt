@@ -1,8 +1,6 @@
 -- `Marker::fill` meets its contract: the deck answers to the byte.
 use native.Mathlib.Omega.{arith}
-use Rattle.deck.specs.Line.{byte}
-use Rattle.marker.proofs.Answered.{due-early, acts}
-use Rattle.marker.proofs.Filled.{small, early, taken, brief, filling-taken, fills-so}
+use Rattle.marker.proofs.Filled.{small, asked-fill, fills-so}
 use Rattle.marker.proofs.Marker.fill.Goals as goal
 
 pub overflow_cast-e : goal.overflow_cast-e
@@ -10,16 +8,10 @@ overflow_cast-e c =
     omega (arith, small c.args.self c.args.e c.requires)
 
 pub after-requires : goal.after-requires
-after-requires c =
-    let m = c.args.self in
-    let e = c.args.e in
-    let x = c.fill-answer.ensures.does (filling-taken m e c.requires) in
-    omega (arith, early m e c.requires, due-early m (byte e.time e.content 0) _ _ _ x (taken m e c.requires) (brief m e c.requires))
+after-requires c = (asked-fill c.args.self c.args.e c.requires (omega arith) c.fill.ensures).prompt
 
 pub returns : goal.returns
 returns c =
-    let m = c.args.self in
-    let e = c.args.e in
-    let x = c.fill-answer.ensures.does (filling-taken m e c.requires) in
-    fills-so m e c.requires c.after.result
-    (acts m (byte e.time e.content 0) _ _ _ x (taken m e c.requires) (brief m e c.requires) c.after.result c.after.ensures)
+    fills-so c.args.self c.args.e c.requires c.after.result
+    ((asked-fill c.args.self c.args.e c.requires (omega arith) c.fill.ensures).acts
+    c.after.result c.after.ensures.deck c.after.ensures.waits)

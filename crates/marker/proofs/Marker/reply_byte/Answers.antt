@@ -1,14 +1,11 @@
 -- `Marker::reply_byte` meets its contract.
-use mathlib.Core.Path.{◌∙◌}
 use native.Mathlib.Omega.{arith}
 use Rattle.marker.proofs.Filled.{unfilled-kind}
-use Rattle.marker.proofs.Passing.{untaken, arrives}
+use Rattle.marker.proofs.Passing.{arrives}
 use Rattle.marker.proofs.Marker.reply_byte.Goals as goal
 
 pub returns-then-not-comes : goal.returns-then-not-comes
-returns-then-not-comes c =
-    let a = c.args in
-    (untaken _ c.heavy.ensures.0, c.heavy.ensures.1 ∙ unfilled-kind a.self a.e (λ z. omega (arith, c.requires.0)))
+returns-then-not-comes c = unfilled-kind c.args.self c.args.e (λ z. omega (arith, c.requires.0))
 
 pub taken-self-requires : goal.taken-self-requires
 taken-self-requires c =
@@ -16,8 +13,7 @@ taken-self-requires c =
 
 pub returns : goal.returns
 returns c =
-    let expected = c.comes.ensures c.if-not-comes.false in
     let a = c.args in (
-      λ p. arrives a.self a.e c.requires.1 c.requires.0 expected c.taken-self.result c.taken-self.ensures,
+      arrives a.self a.e c.requires.1 c.requires.0 (c.comes.ensures c.if-not-comes.false) c.taken-self.result c.taken-self.ensures,
       unfilled-kind a.self a.e (λ z. omega (arith, c.requires.0)),
     )

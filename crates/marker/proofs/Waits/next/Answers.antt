@@ -1,8 +1,12 @@
 -- `Waits::next` meets its contract.
-use mathlib.Core.Path.{sym, ◌∙◌}
-use native.Mathlib.Omega.{arith}
-use Rattle.marker.proofs.Left.{next-left}
+use mathlib.Core.Path.{sym, ap, ◌∙◌}
+use Rattle.std.specs.Prelude.{Some}
+use Rattle.marker.specs.Steps.{awaited}
+use Rattle.marker.proofs.Left.{front-none, front-some, any-above, next-left}
 use Rattle.marker.proofs.Waits.next.Goals as goal
 
+pub returns-then-not-any : goal.returns-then-not-any
+returns-then-not-any c = front-none (awaited c.args.self).left (sym c.any.ensures ∙ c.if-not-any.true)
+
 pub returns : goal.returns
-returns c = c.first.ensures ∙ sym (next-left c.args.self (omega arith))
+returns c = ap Some (c.first.ensures ∙ sym (next-left c.args.self (any-above c.args.self (sym c.any.ensures ∙ c.if-not-any.false)))) ∙ front-some (awaited c.args.self).left (sym c.any.ensures ∙ c.if-not-any.false)
