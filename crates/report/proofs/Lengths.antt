@@ -31,7 +31,7 @@ use Rattle.report.proofs.Sized.{Sized, says-sized}
 -- "turn ", ten digits at most, and the end
 turn-short : (start : ℕ) → start < 2 ^ 32 → length (turn_line start) ≤ 16
 unfolding line
-turn-short start h = simp length-append (omega (arith, few 20 10 start (omega arith) (omega arith)))
+turn-short start h = simp length-append (omega (arith, few 10 start (omega arith) (omega arith) (omega arith)))
 
 turns-short : (starts : List ℕ) → ((i : ℕ) → get_or starts i 0 < 2 ^ 32) → length (turn_lines starts) ≤ 16 * length starts
 unfolding turn_lines

@@ -38,7 +38,8 @@ pub fn text(marked: Marked, starts: &[u32], out: &mut [u8]) -> Result<usize, Ref
     Ok(page.end)
 }
 
-// What the deck says to a record's entries, and how it stands after them.
+// What the deck says to a record's entries, and how it stands after them. It stays beside `text`: one function for both would take a
+// closure that puts the text, and a contract over closures is no plainer.
 pub fn transcript(bytes: &[u8], out: &mut [u8]) -> Result<usize, Refusal>
     ensures answer { written_by result ≡ written_in (room_for_bytes bytes.now) (transcript bytes.now) out.old }
     ensures output { out.new
