@@ -15,7 +15,7 @@ fn answer(bytes: &[u8], out: &mut [u8]) -> usize
     ensures prefix_len { IsPrefixLen result out.new }
     ensures out_after { take result out.new ≡ transcript bytes.now }
 {
-    report::transcript(bytes, out).len
+    report::transcript(bytes, out).unwrap()
 }
 
 // The output, with room for the longest transcript, that of 5,461 entries. In `run` itself the check unfolds so long an array, and
@@ -27,7 +27,7 @@ fn blank() -> [u8; ROOM] {
 // Of a record that is longer than the buffer 65,536 bytes are read: too many, so it is refused all the same.
 fn run(rt: &HostRuntime) -> Result<(), Failure> {
     let mut buf = [0; 65536];
-    let count = program::read(rt, &mut rt.stdin(), &mut buf)?;
+    let count = program::read(rt, &mut rt.stdin(), &mut buf, "answer < RECORD")?;
     let mut out = blank();
     let len = answer(&buf[..count], &mut out);
     rt.write_all(&out[..len]).map_err(|_| Failure::Write)
@@ -35,6 +35,6 @@ fn run(rt: &HostRuntime) -> Result<(), Failure> {
 
 fn main(rt: HostRuntime) {
     if let Err(failure) = run(&rt) {
-        failure.tell(&rt, "answer", "RECORD");
+        let _ = eprintln!(rt; "answer: {failure}");
     }
 }

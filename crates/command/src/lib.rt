@@ -1,7 +1,7 @@
 // The listed commands, and the decoder that searches them.
 #![tactic(auto)]
 
-ghost use Rattle.std.specs.Prelude.{◌≡◌};
+ghost use Rattle.std.specs.Prelude.{◌≡◌, ◌+◌, ◌*◌};
 ghost use Rattle.command.specs.Commands.{commands, lookup};
 
 use settings::{Mode, Which};
@@ -43,6 +43,8 @@ pub enum ReplyKind {
     Status,
 }
 
+const ROWS: usize = 36;
+
 // The first byte has the exact count of data bytes in its low four bits.
 #[derive(Clone, Copy)]
 struct Command {
@@ -51,7 +53,7 @@ struct Command {
     kind: ReplyKind,
 }
 
-static COMMANDS: [Command; 36] = [
+const COMMANDS: [Command; ROWS] = [
     Command {
         first: 0x00,
         command: 0x0C,
@@ -234,20 +236,47 @@ static COMMANDS: [Command; 36] = [
     },
 ];
 
-// The one function that names the table: the prover reads the whole of it in each that does. A static is not built at each call, as a
-// const is: so the search is unrolled, and becomes one switch on the two bytes.
+// The one function that names the table: the prover reads the whole of it in each that does.
 #[tactic(auto, unfolding(crate::specs::Commands::commands))]
-fn rows() -> &'static [Command; 36]
-    ensures { result.now ≡ commands }
+fn rows() -> [Command; ROWS]
+    ensures { result ≡ commands }
 {
-    &COMMANDS
+    COMMANDS
 }
 
+// The two bytes as one number.
+fn code(first: u8, command: u8) -> u32
+    ensures { result ≡ first * 256 + command }
+{
+    u32::from(first) * 256 + u32::from(command)
+}
+
+const THIRD: usize = ROWS / 3;
+
+const TWO_THIRDS: usize = THIRD * 2;
+
+// A speed bar: loops of twelve rows of a table of its own are unrolled, each row is known, and the search is one switch on the code.
+// With one `for` over the rows of a static, a search takes 1.4 times the instructions, and over three parts of it 6 times.
 pub fn find(first: u8, command: u8) -> Option<ReplyKind>
     ensures { result ≡ lookup commands first command }
 {
-    for row in rows() {
-        if row.first == first && row.command == command {
+    let wanted = code(first, command);
+    let table = rows();
+    for i in 0..THIRD {
+        let row = table[i];
+        if code(row.first, row.command) == wanted {
+            return Some(row.kind);
+        }
+    }
+    for i in THIRD..TWO_THIRDS {
+        let row = table[i];
+        if code(row.first, row.command) == wanted {
+            return Some(row.kind);
+        }
+    }
+    for i in TWO_THIRDS..ROWS {
+        let row = table[i];
+        if code(row.first, row.command) == wanted {
             return Some(row.kind);
         }
     }

@@ -7,6 +7,7 @@ ghost use Rattle.completion.specs.Calls.{room_for};
 ghost use Rattle.complete.specs.Printed.{printed};
 
 use program::Failure;
+use text::Page;
 
 // What is written for these bytes, at the front of the output; returns its length. A refusal has at most 29 bytes.
 fn answer(bytes: &[u8], out: &mut [u8]) -> usize
@@ -14,18 +15,21 @@ fn answer(bytes: &[u8], out: &mut [u8]) -> usize
     ensures prefix_len { IsPrefixLen result out.new }
     ensures out_after { take result out.new ≡ printed bytes.now }
 {
-    let written = completion::complete(bytes, out);
-    if written.no != 0 {
-        return text::line(out, 0, b"refused ", written.no as u64).end;
+    match completion::complete(bytes, out) {
+        Ok(len) => len,
+        Err(refusal) => {
+            let mut page = Page { out, end: 0 };
+            page.line(b"refused ", u64::from(refusal.number())).unwrap();
+            page.end
+        }
     }
-    written.len
 }
 
 // Of more than the buffer holds 65,536 bytes are read: too many, so they are refused all the same. The output has room for the
 // longest completed record, 7 times as many, or a refusal.
 fn run(rt: &HostRuntime) -> Result<(), Failure> {
     let mut buf = [0; 65536];
-    let count = program::read(rt, &mut rt.stdin(), &mut buf)?;
+    let count = program::read(rt, &mut rt.stdin(), &mut buf, "complete < EXERCISE")?;
     let mut out = [0; 458781];
     let len = answer(&buf[..count], &mut out);
     rt.write_all(&out[..len]).map_err(|_| Failure::Write)
@@ -33,6 +37,6 @@ fn run(rt: &HostRuntime) -> Result<(), Failure> {
 
 fn main(rt: HostRuntime) {
     if let Err(failure) = run(&rt) {
-        failure.tell(&rt, "complete", "EXERCISE");
+        let _ = eprintln!(rt; "complete: {failure}");
     }
 }

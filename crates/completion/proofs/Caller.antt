@@ -1,30 +1,31 @@
 -- A call of the deck for an entry that follows: it is never refused, and what its caller sees is enough to place the replies.
 use Prim.Native.Nat.{ℕ, zero, suc, ◌+◌, ◌≤◌, ◌<◌}
 use mathlib.Core.Path.{◌≡◌, refl, sym, ap, ◌∙◌}
-use mathlib.Core.Bool.{Bool, true, false, cond, false≢true}
+use mathlib.Core.Bool.{true, false≢true}
 use mathlib.Core.List.{List, [], ◌∷◌, ◌++◌, append-nil, append_assoc}
 use native.Mathlib.Omega.{arith}
 use borrow.Author.Tests.{ltb-true}
-use lib.Dec.{eqb, leb}
-use lib.ListN.{length, drop, length-append}
+use lib.Dec.{eqb}
+use lib.ListN.{length, drop}
 use lib.Seq.{take-append_seam, drop-append_seam}
+use Rattle.std.specs.Prelude.{Err}
+use Rattle.refusal.specs.declared.Refusal.{Refusal}
+use Rattle.refusal.proofs.Numbers.{refuses}
 use Rattle.timecode.specs.Time.{day}
 use Rattle.deck.specs.declared.Deck.{Deck as Held}
-use Rattle.deck.specs.declared.Answer.{Answer as Returned}
+use Rattle.deck.specs.declared.Answer.{Answer}
 use Rattle.deck.specs.Line.{Event, time_of, Deck, Reply, answers, says}
-use Rattle.deck.specs.Calls.{flags_of, place_of, flags_fit, number, told, reply_bytes, Call, taken_call, view, seen}
+use Rattle.deck.specs.Calls.{flags_of, place_of, flags_fit, number, told, len_of, reply_bytes, Call, taken_call, view, Returned, given, returned, seen}
 use Rattle.deck.specs.Events.{Few, none, one, late, two}
 use Rattle.deck.proofs.Late.{both_true, overdue}
 use Rattle.deck.proofs.Numbers.{unrefused, call-is}
 use Rattle.deck.proofs.Replies.{few-replies}
 use Rattle.record.specs.declared.Entry.{Entry}
 use Rattle.record.specs.Entries.{fits, meant, handed_as, handed, after_entry, says_to, Hands}
-use Rattle.record.specs.Bytes.{record_of}
 use Rattle.record.proofs.Handed.{handed-time}
 use Rattle.marker.proofs.Forms.{formed-time}
-use Rattle.text.specs.Puts.{Puts}
-use Rattle.completion.specs.Completed.{on_line, with_reply, with_replies}
-use Rattle.completion.specs.Calls.{reply_of}
+use Rattle.completion.specs.Completed.{with_reply, with_replies}
+use Rattle.completion.specs.Calls.{with_answer}
 use Rattle.completion.proofs.Exercises.{Follows}
 use Rattle.completion.proofs.Placed.{by_one, with-last}
 
@@ -52,6 +53,7 @@ never-refused {t} {e} room r f =
 -- ---- what the caller sees
 
 pub record Sees (d : Held) (e : Entry) (r : Returned) (exit : List ℕ) : Type 0 where
+  pub no : r.no ≡ 0
   pub deck : view r.deck ≡ after_entry (view d) e
   pub clock : r.deck.clock ≡ e.time
   pub first : r.first ≡ told (says_to (view d) e)
@@ -59,7 +61,7 @@ pub record Sees (d : Held) (e : Entry) (r : Returned) (exit : List ℕ) : Type 0
   pub more : List ℕ
   pub out : exit ≡ reply_bytes (says_to (view d) e) ++ more
 
-pub sees : (d : Held) (e : Entry) {entry exit : List ℕ} {r : Returned} → 18 ≤ length entry → Follows d.clock e
+sees : (d : Held) (e : Entry) {entry exit : List ℕ} {r : Returned} → 18 ≤ length entry → Follows d.clock e
     → Hands d e entry r exit → Sees d e r exit
 unfolding after_entry says_to
 sees d e {entry} {exit} {r} room f x =
@@ -67,6 +69,7 @@ sees d e {entry} {exit} {r} room f x =
     let p : seen r exit ≡ taken_call (time_of (handed e)) (answers (view d) (handed e)) entry =
     (x.answers meant).seen-is ∙ call-is d.clock (view d) (handed e) entry true (rw taken) in
     record {
+      no = ap (λ (c : Call). c.no) p;
       deck = ap (λ (c : Call). c.deck) p;
       clock = ap (λ (c : Call). c.clock) p ∙ handed-time e.kind e;
       first = ap (λ (c : Call). c.first) p;
@@ -77,34 +80,19 @@ sees d e {entry} {exit} {r} room f x =
 
 -- ---- where the replies stand
 
--- of the replies to an entry at its time: their lengths, when they are due, and their places
+-- of the replies to an entry at its time: their lengths, and their places
 record Placing (e : Entry) (rs : List Reply) : Type 0 where
-  few : (told rs).len + (told (drop 1 rs)).len ≤ 18
-  all : (told rs).len + (told (drop 1 rs)).len ≡ length (reply_bytes rs)
-  due : ((told rs).due ≤ e.time) × ((told (drop 1 rs)).due ≤ e.time)
-  places : (more : List ℕ)
-      → let bytes = reply_bytes rs ++ more in
-      with_reply (e ∷ []) (reply_of (told rs) bytes) ++ on_line (reply_of (told (drop 1 rs)) (drop (told rs).len bytes))
-      ≡ with_replies (e ∷ []) rs
+  few : len_of (told rs) + len_of (told (drop 1 rs)) ≤ 18
+  places : (more : List ℕ) → with_answer e (told rs) (told (drop 1 rs)) (reply_bytes rs ++ more) ≡ with_replies (e ∷ []) rs
 
 module _ (d : Deck) (e : Entry) where
   placing-none : Placing e []
-  unfolding with_reply with_replies
-  placing-none = record { few = omega arith; all = refl; due = (omega arith, omega arith); places = λ more. go (leb e.time 0) }
-    where
-      go : (b : Bool) → cond {A = List Entry} b (e ∷ []) (e ∷ []) ++ [] ≡ e ∷ []
-      go true = refl
-      go false = refl
+  unfolding with_replies
+  placing-none = record { few = omega arith; places = λ more. refl }
 
-  placing-one : (r : Reply) → length r.bytes ≤ 18 → r.due ≤ e.time → Placing e (r ∷ [])
+  placing-one : (r : Reply) → length r.bytes ≤ 18 → Placing e (r ∷ [])
   unfolding with_reply with_replies
-  placing-one r h k =
-      record {
-        few = omega arith;
-        all = rw (append-nil r.bytes) (omega arith);
-        due = (k, omega arith);
-        places = λ more. rw (append-nil r.bytes, take-append_seam, append-nil);
-      }
+  placing-one r h = record { few = omega arith; places = λ more. rw (append-nil r.bytes, take-append_seam) }
 
   placing-two : (r q : Reply) → length r.bytes + length q.bytes ≤ 18 → r.due ≤ e.time → q.due ≡ e.time
       → Placing e (r ∷ q ∷ [])
@@ -112,23 +100,15 @@ module _ (d : Deck) (e : Entry) where
   placing-two r q h k u =
       record {
         few = h;
-        all = rw (append-nil q.bytes, length-append r.bytes q.bytes);
-        due = (k, omega arith);
         places = λ more.
-            rw (
-              append-nil q.bytes,
-              append_assoc r.bytes q.bytes more,
-              take-append_seam,
-              drop-append_seam,
-              take-append_seam,
-            )
+            rw (append-nil q.bytes, append_assoc r.bytes q.bytes more, take-append_seam, drop-append_seam, take-append_seam)
             (sym (with-last (with_reply (e ∷ []) r) q (by_one q.due (e ∷ []) r (omega arith, tt) (omega arith))));
       }
 
   placing : {v : Event} {rs : List Reply} → time_of v ≡ e.time → Few d v rs → Placing e rs
   placing u none = placing-none
-  placing u (one r p h k) = placing-one r k (omega arith)
-  placing {v} u (late x) = placing-one _ (omega arith) (omega (arith, overdue d (time_of v) x))
+  placing u (one r p h k) = placing-one r k
+  placing {v} u (late x) = placing-one _ (omega arith)
   placing {v} u (two x f) = placing-two _ _ (omega arith) (omega (arith, overdue d (time_of v) x)) u
 
   says-placing : Placing e (says_to d e)
@@ -137,18 +117,20 @@ module _ (d : Deck) (e : Entry) where
 
 -- ---- in the words of the call
 
-module _ {d : Held} {e : Entry} {r : Returned} {exit : List ℕ} (x : Sees d e r exit) where
-  pub seen_few : r.first.len + r.second.len ≤ 18
-  seen_few = rw (x.first, x.second) (says-placing (view d) e).few
+module _ {d : Held} {e : Entry} {entry exit : List ℕ} (room : 18 ≤ length entry) (f : Follows d.clock e) where
+  module _ {a : Answer} (x : Hands d e entry (given a) exit) where
+    s : Sees d e (given a) exit
+    s = sees d e room f x
 
-  pub seen_all : r.first.len + r.second.len ≡ length (reply_bytes (says_to (view d) e))
-  seen_all = rw (x.first, x.second) (says-placing (view d) e).all
+    pub seen_few : len_of a.first + len_of a.second ≤ 18
+    seen_few = rw (s.first, s.second) (says-placing (view d) e).few
 
-  pub seen-due : (r.first.due ≤ e.time) × (r.second.due ≤ e.time)
-  seen-due = rw (x.first, x.second) (says-placing (view d) e).due
+    pub seen-deck : (view a.deck ≡ after_entry (view d) e) × (a.deck.clock ≡ e.time)
+    seen-deck = (s.deck, s.clock)
 
-  -- the entry with two replies is put, and so it is with all that the deck says to it
-  pub seen-puts : {a b : List ℕ} {at k : ℕ}
-      → Puts a at (record_of (with_reply (e ∷ []) (reply_of r.first exit) ++ on_line (reply_of r.second (drop r.first.len exit)))) b k
-      → Puts a at (record_of (with_replies (e ∷ []) (says_to (view d) e))) b k
-  seen-puts p = rw (x.first, x.second, x.out, (says-placing (view d) e).places x.more) at p
+    -- the entry and the replies that are told are the entry and all that the deck says to it
+    pub seen-all : with_answer e a.first a.second exit ≡ with_replies (e ∷ []) (says_to (view d) e)
+    seen-all = rw (s.first, s.second, s.out) ((says-placing (view d) e).places s.more)
+
+  pub never : (x : Refusal) → Hands d e entry (returned d (Err x)) exit → ⊥
+  never x h = refuses x (sees d e room f h).no

@@ -8,22 +8,20 @@ use mathlib.Core.List.{List, [], ◌∷◌, ◌++◌, append-nil}
 use native.Mathlib.Omega.{arith}
 use lib.Dec.{leb}
 use lib.ListN.{length, length-append, length-map}
-use lib.Seq.{length-take-le}
 use Rattle.execute.specs.Execute.{execute}
 use Rattle.execute.proofs.Replies.{reply-short}
-use Rattle.deck.specs.declared.Sent.{Sent}
 use Rattle.deck.specs.Line.{Event, byte, look, position, cassette, time_of, Deck, deck, at_power_on, Reply, Answer, is_open, size, taken, acted, answers}
 use Rattle.deck.specs.Calls.{reply_bytes}
 use Rattle.deck.proofs.Steps.{look-shut, look-cases, byte-cases, taken-full, taken_more, acted-byte, acted-other, answers-soon, answers-late}
 use Rattle.deck.proofs.Cases.{length_more}
 use Rattle.record.specs.declared.Entry.{Entry}
 use Rattle.record.specs.Entries.{entry, handed, after_entry, says_to}
-use Rattle.record.specs.Bytes.{entries_of, record_of}
+use Rattle.record.specs.Bytes.{entries_of}
 use Rattle.record.proofs.Bytes.{length-entries}
 use Rattle.record.proofs.Records.{length-record}
 use Rattle.record.proofs.Lists.{le-or-lt}
 use Rattle.completion.specs.Completed.{with_reply, with_replies, completed_from, completed}
-use Rattle.completion.specs.Calls.{room_for, completion, reply_of}
+use Rattle.completion.specs.Calls.{room_for, completion}
 
 -- ---- an event
 
@@ -100,14 +98,6 @@ length-all : (rs : List Reply) (es : List Entry) → length (with_replies es rs)
 unfolding with_replies
 length-all [] es = omega arith
 length-all (r ∷ rs) es = omega (arith, length-all rs (with_reply es r), length-with es r, length-append r.bytes (reply_bytes rs))
-
--- the entry with a reply as the deck's caller has it, and with all of them
-pub length_both : (e : Entry) (s : Sent) (bytes : List ℕ) → s.len ≤ length bytes
-    → length (record_of (with_reply (e ∷ []) (reply_of s bytes))) ≡ 12 + 12 * s.len
-length_both e s bytes h = rw (length-record, length-with, length-take-le s.len bytes h) (omega arith)
-
-pub length-step : (e : Entry) (rs : List Reply) → length (record_of (with_replies (e ∷ []) rs)) ≡ 12 + 12 * length (reply_bytes rs)
-length-step e rs = rw (length-record, length-all) (omega arith)
 
 -- ---- the whole record
 

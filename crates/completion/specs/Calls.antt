@@ -1,12 +1,12 @@
 -- The call that completes a record: its numbers, what it returns, and what the output holds afterwards.
-use Rattle.std.specs.Prelude.{ℕ, ◌*◌, Bool, true, false, cond, not, ◌&&◌, List, [], ◌∷◌, ◌++◌, eqb, ltb, leb, length, take, drop}
+use Rattle.std.specs.Prelude.{ℕ, ◌*◌, Option, Some, None, Bool, true, false, cond, not, ◌&&◌, List, [], ◌∷◌, ◌++◌, eqb, ltb, leb, length, take, drop}
 use Rattle.deck.specs.declared.Sent.{Sent}
 use Rattle.deck.specs.Line.{Reply}
 use Rattle.record.specs.declared.Entry.{Entry}
-use Rattle.record.specs.declared.Written.{Written}
+use Rattle.record.specs.Bytes.{Written}
 use Rattle.record.specs.Entries.{formed, is_deck}
 use Rattle.record.specs.Bytes.{entries_of, record_of, is_record}
-use Rattle.completion.specs.Completed.{completed}
+use Rattle.completion.specs.Completed.{on_line, with_reply, completed}
 
 -- a well-formed controller, tape or cassette entry that is not before t
 unfoldable pub follows : ℕ → Entry → Bool
@@ -47,6 +47,13 @@ written_out bytes out =
 
 -- ---- for private functions
 
--- a reply as the deck's caller has it, its bytes at the front of these; whether it opens a quiet is not told
-abbrev pub reply_of : Sent → List ℕ → Reply
-reply_of s bytes = record { bytes = take s.len bytes; due = s.due; quiets = false }
+-- a reply as the deck's caller has it; whether it opens a quiet is not told
+abbrev pub reply : (due : ℕ) (bytes : List ℕ) → Reply
+reply due bytes = record { bytes = bytes; due = due; quiets = false }
+
+-- an entry and the replies to it, as the deck's caller has them: their bytes stand at the front of these, one behind the other
+abbrev pub with_answer : Entry → (first second : Option Sent) → List ℕ → List Entry
+with_answer e None second bytes = e ∷ []
+with_answer e (Some s) None bytes = with_reply (e ∷ []) (reply s.due (take s.len bytes))
+with_answer e (Some s) (Some q) bytes =
+    with_reply (e ∷ []) (reply s.due (take s.len bytes)) ++ on_line (reply q.due (take q.len (drop s.len bytes)))

@@ -1,114 +1,87 @@
-// The completed record, put into an output entry by entry.
-ghost use Rattle.std.specs.Prelude.{◌+◌, ◌*◌, ◌≤◌, ◌<◌, ◌^◌, ◌≡◌, true, [], ◌∷◌, ◌++◌, length, drop};
-ghost use Rattle.deck.specs.Calls.{reply_bytes, view};
+// The completed record, put on a page entry by entry.
+ghost use Rattle.std.specs.Prelude.{◌+◌, ◌≤◌, ◌≡◌, true, [], ◌∷◌, length, IfOk};
+ghost use Rattle.deck.specs.Calls.{len_of, view};
 ghost use Rattle.record.specs.Entries.{after_entry, says_to};
 ghost use Rattle.record.specs.Bytes.{bytes_of, entries_of, record_of};
-ghost use Rattle.text.specs.Puts.{Puts};
+ghost use Rattle.text.specs.Puts.{Adds};
 ghost use Rattle.completion.specs.Completed.{on_line, with_reply, with_replies, completed};
-ghost use Rattle.completion.specs.Calls.{follows, all_follow, room_for, reply_of};
+ghost use Rattle.completion.specs.Calls.{follows, all_follow, reply, with_answer};
 
-use super::DECK;
-use deck::{Deck, Sent};
-use record::Entry;
+use cursor::Cursor;
+use deck::{Answer, Deck};
+use record::{Entry, Kind};
+use refusal::Refusal;
+use text::Page;
 
-// The deck after an entry, and where the record ends.
-#[derive(Clone, Copy)]
-struct Told {
-    deck: Deck,
-    end: usize,
+fn put_entry(page: &mut Page<'_>, e: Entry) -> Result<(), Refusal>
+    ensures { Adds page.old (bytes_of e) page.new result }
+{
+    page.words(&e.to_bytes())
 }
 
-// An entry at `at`.
-fn put_entry(out: &mut [u8], at: usize, e: Entry) -> usize
-    requires { (at + 12 ≤ length out.old) × (e.time < 2 ^ 48) }
-    ensures { Puts out.old at (bytes_of e) out.new result }
+fn put_reply(page: &mut Page<'_>, due: u64, bytes: &[u8]) -> Result<(), Refusal>
+    ensures { Adds page.old (record_of (on_line (reply due bytes.now))) page.new result }
 {
-    let mut bytes = [0u8; 12];
-    record::write(e, &mut bytes);
-    text::words(out, at, &bytes).end
-}
-
-// A reply, whose bytes stand at the front of these.
-fn put_reply(out: &mut [u8], at: usize, sent: Sent, bytes: &[u8]) -> usize
-    requires { (sent.len ≤ length bytes.now) × (at + 12 * sent.len ≤ length out.old) × (sent.due < 2 ^ 48) }
-    ensures { Puts out.old at (record_of (on_line (reply_of sent bytes.now))) out.new result }
-{
-    let len = sent.len;
-    let due = sent.due;
-    let mut end = at;
-    let mut i: usize = 0;
-    while i < len {
-        let byte = bytes[i];
-        let content = byte as u32;
+    for byte in bytes {
         let entry = Entry {
-            kind: DECK,
+            kind: Kind::Deck as u8,
             flags: 0,
-            content: content,
+            content: u32::from(*byte),
             time: due,
         };
-        end = put_entry(out, end, entry);
-        i += 1;
+        put_entry(page, entry)?;
     }
-    end
+    Ok(())
 }
 
 // An entry and a reply to it: behind it, unless the reply was due before.
-fn put_both(out: &mut [u8], at: usize, e: Entry, sent: Sent, bytes: &[u8]) -> usize
-    requires { (sent.len ≤ length bytes.now) × (at + 12 + 12 * sent.len ≤ length out.old) × (e.time < 2 ^ 48)
-        × (sent.due < 2 ^ 48) }
-    ensures { Puts out.old at (record_of (with_reply (e ∷ []) (reply_of sent bytes.now))) out.new result }
+fn put_both(page: &mut Page<'_>, e: Entry, due: u64, bytes: &[u8]) -> Result<(), Refusal>
+    ensures { Adds page.old (record_of (with_reply (e ∷ []) (reply due bytes.now))) page.new result }
 {
-    if e.time <= sent.due {
-        let from = put_entry(out, at, e);
-        return put_reply(out, from, sent, bytes);
+    if e.time <= due {
+        put_entry(page, e)?;
+        return put_reply(page, due, bytes);
     }
-    let from = put_reply(out, at, sent, bytes);
-    put_entry(out, from, e)
+    put_reply(page, due, bytes)?;
+    put_entry(page, e)
 }
 
-// An entry and two replies to it, whose bytes stand at the front of these, one behind the other; a length of 0 is no reply.
-fn put_answer(out: &mut [u8], at: usize, e: Entry, first: Sent, second: Sent, bytes: &[u8]) -> usize
-    requires { (first.len + second.len ≤ length bytes.now) × (at + 12 + 12 * (first.len + second.len) ≤ length out.old)
-        × (e.time < 2 ^ 48) × (first.due < 2 ^ 48) × (second.due < 2 ^ 48) }
-    ensures { Puts out.old at (record_of (with_reply (e ∷ []) (reply_of first bytes.now)
-        ++ on_line (reply_of second (drop first.len bytes.now)))) out.new result }
+// An entry and the replies to it, whose bytes stand at the front of these.
+fn put_answer(page: &mut Page<'_>, e: Entry, answer: &Answer, bytes: &[u8]) -> Result<(), Refusal>
+    requires { len_of answer.now.first + len_of answer.now.second ≤ length bytes.now }
+    ensures { Adds page.old (record_of (with_answer e answer.now.first answer.now.second bytes.now)) page.new result }
 {
-    let len = first.len;
-    let from = put_both(out, at, e, first, bytes);
-    put_reply(out, from, second, &bytes[len..])
+    match (answer.first, answer.second) {
+        (None, _) => put_entry(page, e),
+        (Some(first), None) => put_both(page, e, first.due, &bytes[..first.len]),
+        (Some(first), Some(second)) => {
+            let (front, rest) = bytes.split_at(first.len);
+            put_both(page, e, first.due, front)?;
+            put_reply(page, second.due, &rest[..second.len])
+        }
+    }
 }
 
-// An entry and all that the deck says to it: of two replies the second is due at the entry's time.
-fn put_step(out: &mut [u8], at: usize, deck: Deck, e: Entry) -> Told
-    requires { (at + 12 + 12 * length (reply_bytes (says_to (view deck) e)) ≤ length out.old) × (follows deck.clock e ≡ true) }
-    ensures { Puts out.old at (record_of (with_replies (e ∷ []) (says_to (view deck) e))) out.new result.end
-        × (view result.deck ≡ after_entry (view deck) e) × (result.deck.clock ≡ e.time) }
+// An entry and all that the deck says to it.
+fn put_step(page: &mut Page<'_>, deck: Deck, e: Entry) -> Result<Deck, Refusal>
+    requires { follows deck.clock e ≡ true }
+    ensures puts { Adds page.old (record_of (with_replies (e ∷ []) (says_to (view deck) e))) page.new result }
+    ensures deck { IfOk result (λ d. (view d ≡ after_entry (view deck) e) × (d.clock ≡ e.time)) }
 {
-    let mut bytes = [0u8; 18];
-    let answer = record::hand(deck, e, &mut bytes);
-    let after = answer.deck;
-    let first = answer.first;
-    let second = answer.second;
-    Told {
-        deck: after,
-        end: put_answer(out, at, e, first, second, &bytes),
-    }
+    let mut bytes = [0; 18];
+    let answer = record::hand(deck, e, &mut bytes)?;
+    put_answer(page, e, &answer, &bytes)?;
+    Ok(answer.deck)
 }
 
 // Every entry, handed to a deck at power-on.
-pub(super) fn put_record(out: &mut [u8], bytes: &[u8]) -> usize
-    requires { (room_for bytes.now ≤ length out.old) × (all_follow 0 (entries_of bytes.now) ≡ true) }
-    ensures { Puts out.old 0 (record_of (completed (entries_of bytes.now))) out.new result }
+pub(super) fn put_record(page: &mut Page<'_>, bytes: &[u8]) -> Result<(), Refusal>
+    requires { all_follow 0 (entries_of bytes.now) ≡ true }
+    ensures { Adds page.old (record_of (completed (entries_of bytes.now))) page.new result }
 {
     let mut deck = Deck::power_on();
-    let mut end: usize = 0;
-    let mut i: usize = 0;
-    while i < bytes.len() / 12 {
-        let read = record::read(bytes, i);
-        let told = put_step(out, end, deck, read.entry);
-        deck = told.deck;
-        end = told.end;
-        i += 1;
+    for e in Cursor::at(bytes, 0) {
+        deck = put_step(page, deck, e)?;
     }
-    end
+    Ok(())
 }

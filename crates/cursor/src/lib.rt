@@ -2,7 +2,8 @@
 #![tactic(auto)]
 
 ghost use Rattle.std.specs.Prelude.{◌≡◌};
-ghost use Rattle.cursor.specs.Cursors.{taken_by, taken_at};
+ghost use Rattle.std.specs.Iterator.{item_count};
+ghost use Rattle.cursor.specs.Cursors.{standing, entries_left, Moves, taken_by, taken_at};
 
 use record::Entry;
 use refusal::Refusal;
@@ -22,9 +23,6 @@ pub struct Taken {
 }
 
 impl<'a> Cursor<'a> {
-    ghost use Rattle.std.specs.Prelude.{◌≡◌};
-    ghost use Rattle.cursor.specs.Cursors.{standing};
-
     // A cursor that stands at this place.
     pub fn at(bytes: &'a [u8], place: usize) -> Cursor<'a>
         ensures { result ≡ standing bytes.entry place }
@@ -34,9 +32,6 @@ impl<'a> Cursor<'a> {
 }
 
 impl<'a> Iterator for Cursor<'a> {
-    ghost use Rattle.std.specs.Iterator.{item_count};
-    ghost use Rattle.cursor.specs.Cursors.{entries_left, Moves};
-
     type Item = Entry;
 
     ghost next_gives = { Moves };

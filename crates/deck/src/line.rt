@@ -2,7 +2,7 @@
 ghost use Rattle.std.specs.Prelude.{◌≡◌, ℕ, true, not, ◌&&◌, [], ◌∷◌, ◌++◌, ◌+◌, ◌≤◌, ◌<◌, ◌^◌, leb, length};
 ghost use Rattle.std.specs.Prelude.{None};
 ghost use Rattle.execute.specs.Execute.{execute};
-ghost use Rattle.deck.specs.Line.{byte, deck, timed_out, in_quiet, size, voided, looked, replied, taken, received, answers};
+ghost use Rattle.deck.specs.Line.{byte, deck, free_after, timed_out, in_quiet, size, voided, looked, replied, taken, received, answers};
 ghost use Rattle.deck.specs.Calls.{view, Made, Admitted, Comes};
 ghost use Rattle.deck.specs.Joins.{grown};
 
@@ -43,15 +43,16 @@ impl Deck {
         self.held != 0 && (self.first % 16) as usize + 1 < self.held
     }
 
-    // No block is open, and a quiet begins if the NAK opens one.
-    fn void(mut self, why: u8, due: u64) -> Deck
+    // No block is open after a reply, which may open a quiet.
+    fn closed(mut self, quiets: bool, due: u64) -> Deck
         requires { due < 2 ^ 63 }
-        ensures { (view result ≡ (voided (view self) why due).deck) × (result.clock ≡ self.clock) × Made result }
+        ensures { (view result ≡ deck [] self.last (free_after quiets due self.free) self.settings) × (result.clock ≡ self.clock)
+            × Made result }
     {
         self.held = 0;
         self.first = 0;
         self.tail = Tail::none();
-        if execute::opens_quiet(why) {
+        if quiets {
             self.free = due + 10001;
         }
         self
@@ -63,7 +64,7 @@ impl Deck {
     {
         let len = execute::nak(why, out).unwrap();
         Answer {
-            deck: self.void(why, due),
+            deck: self.closed(execute::opens_quiet(why), due),
             first: Some(Sent { len, due }),
             second: None,
         }
@@ -118,16 +119,10 @@ impl Deck {
             last: content,
         };
         let done = execute::execute(self.settings, block, out).unwrap();
-        self.held = 0;
-        self.first = 0;
-        self.tail = Tail::none();
         self.last = time;
         self.settings = done.settings;
-        if done.quiets {
-            self.free = time + 10001;
-        }
         Answer {
-            deck: self,
+            deck: self.closed(done.quiets, time),
             first: Some(Sent {
                 len: done.len,
                 due: time,
@@ -174,7 +169,7 @@ impl Deck {
         if flags != 0 {
             let len = execute::nak(flags, &mut out[4..]).unwrap();
             return Answer {
-                deck: deck.void(flags, time),
+                deck: deck.closed(execute::opens_quiet(flags), time),
                 second: Some(Sent { len, due: time }),
                 ..answer
             };

@@ -5,6 +5,7 @@ ghost use Rattle.std.specs.Prelude.{◌≤◌, length, take};
 ghost use Rattle.io.specs.Counts.{IsPrefixLen};
 ghost use Rattle.mark.specs.Answers.{Answers};
 
+use marker::Marked;
 use program::Failure;
 
 // What is printed for these bytes, at the front of the output; returns its length. The table has a place for every entry.
@@ -14,14 +15,14 @@ fn answer(bytes: &[u8], out: &mut [u8]) -> usize
     ensures answers { Answers bytes.now (take result out.new) }
 {
     let mut table = [0; 5461];
-    let marked = marker::mark(bytes, &mut table);
-    report::text(marked, &table[..marked.count], out).len
+    let marked = Marked::from(marker::mark(bytes, &mut table));
+    report::text(marked, &table[..marked.count], out).unwrap()
 }
 
 // Of a record that is longer than the buffer 65,536 bytes are read: too many, so it is refused all the same.
 fn run(rt: &HostRuntime) -> Result<(), Failure> {
     let mut buf = [0; 65536];
-    let count = program::read(rt, &mut rt.stdin(), &mut buf)?;
+    let count = program::read(rt, &mut rt.stdin(), &mut buf, "mark < RECORD")?;
     let mut out = [0; 87440];
     let len = answer(&buf[..count], &mut out);
     rt.write_all(&out[..len]).map_err(|_| Failure::Write)
@@ -29,6 +30,6 @@ fn run(rt: &HostRuntime) -> Result<(), Failure> {
 
 fn main(rt: HostRuntime) {
     if let Err(failure) = run(&rt) {
-        failure.tell(&rt, "mark", "RECORD");
+        let _ = eprintln!(rt; "mark: {failure}");
     }
 }

@@ -5,29 +5,35 @@ ghost use Rattle.std.specs.Prelude.{◌≡◌, ◌≢◌, ℕ, ◌<◌, ◌≤�
 ghost use Rattle.std.specs.Io.KnownBytes.{Consumes, IsAtEnd};
 
 use std::env::FillError;
+use std::fmt;
 use std::io::Read;
 use std::rt::Env;
 
-// What kept a program from its work.
+// What kept a program from its work: an argument, and how the program is to be used, or a read or write that failed.
 #[derive(Clone, Copy, PartialEq, Eq, Debug)]
 pub enum Failure {
-    Argument,
+    Argument(&'static str),
     Read,
     Write,
 }
 
 // Reads all of the input, or as much of it as there is space for. A name given as an argument would be passed over, and an empty
 // standard input taken in its place; and a terminal can go on behind an end.
-pub fn read<R: Read>(rt: &impl Env, input: &mut R, space: &mut [u8]) -> Result<usize, Failure>
+pub fn read<R: Read>(
+    rt: &impl Env,
+    input: &mut R,
+    space: &mut [u8],
+    usage: &'static str,
+) -> Result<usize, Failure>
     ensures in_bounds { IfOk result (λ count. count ≤ length space.new) }
     ensures bytes { IfOk result (λ count. Consumes (R.remaining input.old) (R.remaining input.new) (take count space.new)) }
     ensures all { IfOk result (λ count. count < length space.new → IsAtEnd (R.remaining input.new)) }
-    ensures argument { result ≡ Err Failure.Argument → (space.new ≡ space.old) × (input.new ≡ input.old) }
+    ensures argument { IfErr result (λ failure. failure ≢ Failure.Read
+        → (failure ≡ Failure.Argument usage.entry) × (space.new ≡ space.old) × (input.new ≡ input.old)) }
     ensures lost { IfErr result (λ _. (bytes : List ℕ) × Consumes (R.remaining input.old) (R.remaining input.new) bytes) }
-    ensures unwritten { IfErr result (λ failure. failure ≢ Failure.Write) }
 {
     if !matches!(rt.arg(1, &mut [0]), Err(FillError::NotPresent)) {
-        return Err(Failure::Argument);
+        return Err(Failure::Argument(usage));
     }
     let count = streams::read_full(input, space).map_err(|_| Failure::Read)?;
     if count < space.len() && !matches!(input.read(&mut [0]), Ok(0)) {
@@ -36,15 +42,17 @@ pub fn read<R: Read>(rt: &impl Env, input: &mut R, space: &mut [u8]) -> Result<u
     Ok(count)
 }
 
-impl Failure {
-    // `takes` names what the program takes on standard input.
-    pub fn tell(self, rt: &impl Eprint, program: &str, takes: &str) {
-        let _ = match self {
-            Failure::Argument => {
-                eprintln!(rt; "{program}: takes no argument, use: {program} < {takes}")
-            }
-            Failure::Read => eprintln!(rt; "{program}: not all could be read"),
-            Failure::Write => eprintln!(rt; "{program}: not all could be written"),
-        };
+impl fmt::Display for Failure {
+    ghost use Rattle.std.specs.Prelude.{Some};
+    ghost use Rattle.program.specs.Messages.{failure_text};
+
+    ghost output = { λ failure. Some (failure_text failure) };
+
+    fn fmt<W: fmt::Write>(&self, f: &mut fmt::Formatter<W>) -> fmt::Result {
+        match self {
+            Failure::Argument(usage) => write!(f, "takes no argument, use: {usage}"),
+            Failure::Read => f.write_str("not all could be read"),
+            Failure::Write => f.write_str("not all could be written"),
+        }
     }
 }

@@ -48,10 +48,3 @@ module _ (e : Entry) where
 
   pub fits-position : e.kind ≡ 2 → fits e.kind e ≡ eqb e.flags 0 && ltb e.content day
   fits-position p = fits_by e.kind e ∙ ap (λ (k : ℕ). fits_as (kind_of k) e) p
-
-  pub fits-none : (k : ℕ) → (k ≡ 0 → ⊥) → (k ≡ 1 → ⊥) → (k ≡ 2 → ⊥) → (k ≡ 3 → ⊥) → fits k e ≡ false
-  fits-none zero a b c d = absurd (a refl)
-  fits-none (suc zero) a b c d = absurd (b refl)
-  fits-none (suc (suc zero)) a b c d = absurd (c refl)
-  fits-none (suc (suc (suc zero))) a b c d = absurd (d refl)
-  fits-none (suc (suc (suc (suc k)))) a b c d = fits_by (suc (suc (suc (suc k)))) e

@@ -1,16 +1,9 @@
--- The kinds of entries, as the code tests them.
+-- Which entries are deck bytes, as the code tests it.
 use Rattle.std.specs.Prelude.{ℕ, zero, suc, ◌≡◌, Bool, true, false, Option, Some, None}
 use Rattle.std.proofs.Common.{refl}
 use Rattle.record.specs.declared.kind.Kind.{Kind}
 use Rattle.record.specs.declared.kind.Kind.TheVariants.{Controller, Deck, Position, Cassette}
-use Rattle.record.specs.Entries.{kind_of, is_controller, is_deck}
-
-abbrev pub from_controller : Option Kind → Bool
-from_controller (Some Controller) = true
-from_controller (Some Deck) = false
-from_controller (Some Position) = false
-from_controller (Some Cassette) = false
-from_controller None = false
+use Rattle.record.specs.Entries.{kind_of, is_deck}
 
 abbrev pub deck_byte : Option Kind → Bool
 deck_byte (Some Controller) = false
@@ -18,13 +11,6 @@ deck_byte (Some Deck) = true
 deck_byte (Some Position) = false
 deck_byte (Some Cassette) = false
 deck_byte None = false
-
-pub is_controller_by : (k : ℕ) → is_controller k ≡ from_controller (kind_of k)
-is_controller_by zero = refl
-is_controller_by (suc zero) = refl
-is_controller_by (suc (suc zero)) = refl
-is_controller_by (suc (suc (suc zero))) = refl
-is_controller_by (suc (suc (suc (suc k)))) = refl
 
 pub is_deck_by : (k : ℕ) → is_deck k ≡ deck_byte (kind_of k)
 is_deck_by zero = refl

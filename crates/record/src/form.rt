@@ -7,6 +7,7 @@ use super::{Entry, Kind};
 use deck::LAST_TIME;
 use timecode::DAY;
 
+#[tactic(auto, using(crate::proofs::Forms::masked))]
 fn flags_fit(flags: u8) -> bool
     ensures { result ≡ flags_fit flags }
 {

@@ -1,4 +1,7 @@
 // What an entry is.
+ghost use Rattle.std.specs.Prelude.{◌≡◌};
+ghost use Rattle.record.specs.Entries.{kind_of, kind_or_field};
+
 use super::Entry;
 use refusal::Refusal;
 
@@ -11,9 +14,6 @@ pub enum Kind {
 }
 
 impl TryFrom<u8> for Kind {
-    ghost use Rattle.std.specs.Prelude.{◌≡◌};
-    ghost use Rattle.record.specs.Entries.{kind_or_field};
-
     type Error = Refusal;
 
     ghost try_from_gives = { λ byte r. r ≡ kind_or_field byte };
@@ -30,9 +30,6 @@ impl TryFrom<u8> for Kind {
 }
 
 impl Entry {
-    ghost use Rattle.std.specs.Prelude.{◌≡◌};
-    ghost use Rattle.record.specs.Entries.{kind_of};
-
     // None where its byte is no kind.
     pub fn kind(self) -> Option<Kind>
         ensures { result ≡ kind_of self.kind }

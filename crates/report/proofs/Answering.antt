@@ -1,33 +1,30 @@
 -- From what a call's caller sees, the lines that the deck's replies make, and how the deck stands after it.
-use Prim.Native.Nat.{ℕ, ◌+◌, ◌≤◌, ◌<◌}
+use Prim.Native.Nat.{ℕ, ◌+◌, ◌≤◌}
 use mathlib.Core.Path.{◌≡◌, refl, ap, ◌∙◌}
 use mathlib.Core.Bool.{Bool, true, false, cond}
 use mathlib.Core.List.{List, [], ◌∷◌, ◌++◌, append-nil, append_assoc}
 use native.Mathlib.Omega.{arith}
-use borrow.Author.Tests.{ne_eqb}
 use lib.Dec.{eqb}
 use lib.ListN.{length, drop}
 use lib.Seq.{take-append_seam, drop-append_seam}
 use Rattle.deck.specs.declared.Deck.{Deck as Held}
-use Rattle.deck.specs.declared.Answer.{Answer as Returned}
 use Rattle.deck.specs.Line.{Event, time_of, Deck, Reply, answers, after, says}
-use Rattle.deck.specs.Calls.{number, told, reply_bytes, Call, taken_call, refused_call, call, view, seen, Answers}
+use Rattle.deck.specs.Calls.{number, told, len_of, Returned, reply_bytes, Call, taken_call, refused_call, call, view, seen, Answers}
 use Rattle.deck.proofs.Numbers.{call-is}
 use Rattle.record.specs.declared.Entry.{Entry}
 use Rattle.record.specs.Entries.{handed, meant, Hands}
 use Rattle.text.specs.Text.{at_line}
 use Rattle.report.specs.Text.{refused}
 use Rattle.report.specs.Transcript.{reply_line, reply_lines, malformed_line, Standing, entry_lines, stands}
-use Rattle.report.specs.Answered.{standing, sent_line, call_lines}
+use Rattle.report.specs.Answered.{standing, sent_line, sent_lines, call_lines}
 use Rattle.report.proofs.Sized.{Sized, says-sized}
 
 -- ---- the replies in an output
 
 -- a reply at the front
-sent : (r : Reply) (rs : List Reply) (out : List ℕ) → 0 < length r.bytes
-    → sent_line (told (r ∷ rs)) (r.bytes ++ out) ≡ reply_line r
+sent : (r : Reply) (rs : List Reply) (out : List ℕ) → sent_line (told (r ∷ rs)) (r.bytes ++ out) ≡ reply_line r
 unfolding sent_line
-sent r rs out h = rw (ne_eqb (length r.bytes) 0 (omega arith), take-append_seam)
+sent r rs out = rw take-append_seam
 
 unsent : (out : List ℕ) → sent_line (told []) out ≡ []
 unfolding sent_line
@@ -35,26 +32,25 @@ unsent out = refl
 
 -- all of them, one behind the other
 told-lines : (rs : List Reply) (out : List ℕ) → Sized rs
-    → sent_line (told rs) (reply_bytes rs ++ out) ++ sent_line (told (drop 1 rs)) (drop (told rs).len (reply_bytes rs ++ out))
-    ≡ reply_lines rs
+    → sent_lines (told rs) (told (drop 1 rs)) (reply_bytes rs ++ out) ≡ reply_lines rs
 unfolding reply_lines
-told-lines [] out s = rw unsent
-told-lines (r ∷ []) out s = rw (append-nil r.bytes, sent r [] out s.0, unsent)
+told-lines [] out z = rw unsent
+told-lines (r ∷ []) out z = rw (append-nil r.bytes, sent r [] out, unsent)
 told-lines (r ∷ s ∷ []) out z =
     rw (
       append-nil s.bytes,
       append_assoc r.bytes,
-      sent r (s ∷ []) (s.bytes ++ out) z.0,
+      sent r (s ∷ []) (s.bytes ++ out),
       drop-append_seam,
-      sent s [] out z.1,
+      sent s [] out,
       append-nil,
     )
 told-lines (r ∷ s ∷ q ∷ rs) out z = absurd z
 
-told-small : (rs : List Reply) → Sized rs → (told rs).len + (told (drop 1 rs)).len ≤ 18
+told-small : (rs : List Reply) → Sized rs → len_of (told rs) + len_of (told (drop 1 rs)) ≤ 18
 told-small [] z = omega arith
-told-small (r ∷ []) z = omega (arith, z.1)
-told-small (r ∷ s ∷ []) z = z.2
+told-small (r ∷ []) z = omega (arith, z)
+told-small (r ∷ s ∷ []) z = z
 told-small (r ∷ s ∷ q ∷ rs) z = absurd z
 
 -- ---- a call
@@ -83,11 +79,11 @@ module _ (clock : ℕ) (d : Deck) (e : Event) (out : List ℕ) (room : length ou
       go true = refl
       go false = refl
 
-  pub call-small : (call clock d e out).first.len + (call clock d e out).second.len ≤ 18
+  pub call-small : len_of (call clock d e out).first + len_of (call clock d e out).second ≤ 18
   call-small = rw (call-is clock d e out (eqb (number (length out) clock e) 0) refl, room) (go (eqb (number 18 clock e) 0))
     where
       go : (b : Bool) → let c = cond b (taken_call (time_of e) (answers d e) out) (refused_call (number 18 clock e) clock d out) in
-          c.first.len + c.second.len ≤ 18
+          len_of c.first + len_of c.second ≤ 18
       go true = told-small (says d e) (says-sized d e)
       go false = omega arith
 
@@ -108,9 +104,9 @@ module _ (d : Held) (e : Entry) (out exit : List ℕ) (q : Returned) (room : len
       ap (λ (c : Call). record { clock = c.clock; deck = c.deck }) x.seen-is
       ∙ call-stands d.clock (view d) (handed e) out room ∙ rw m
 
-  pub entry-small : q.first.len + q.second.len ≤ 18
+  pub entry-small : len_of q.first + len_of q.second ≤ 18
   entry-small =
-      rw (ap (λ (c : Call). c.first.len + c.second.len) x.seen-is)
+      rw (ap (λ (c : Call). len_of c.first + len_of c.second) x.seen-is)
       (call-small d.clock (view d) (handed e) out room)
 
 -- ---- one that is malformed

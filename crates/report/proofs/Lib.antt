@@ -1,5 +1,6 @@
 -- The laws of `report`.
 pub mod Lines
+pub mod Lengths
 pub mod Room
 -- of the transcript
 pub mod Sized

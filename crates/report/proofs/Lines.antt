@@ -1,19 +1,15 @@
--- The lines of turns, and their lengths.
-use Prim.Native.Nat.{ℕ, ◌+◌, ◌^◌, ◌≤◌, ◌<◌}
-use mathlib.Core.Path.{◌≡◌, refl}
+-- Lines one behind the other.
+use Prim.Native.Nat.{ℕ, ◌+◌, ◌<◌}
+use mathlib.Core.Path.{◌≡◌, refl, sym, ap, ◌∙◌}
 use mathlib.Core.List.{List, [], ◌∷◌, ◌++◌, append-nil, append_assoc}
 use native.Mathlib.Numerals.{add-one}
-use native.Mathlib.Omega.{arith}
-use lib.ListN.{length, take, get_or, length-append}
+use lib.ListN.{length, take, drop, get_or, take-append-drop}
 use lib.Seq.{take-suc}
-use Rattle.text.specs.Text.{line}
-use Rattle.text.proofs.Digits.{few}
+use Rattle.text.specs.Text.{hex_line}
+use Rattle.settings.specs.declared.Settings.{Settings}
+use Rattle.settings.specs.Status.{status_bytes}
+use Rattle.report.specs.Transcript.{speed_line, time_line, time_lines, settings_lines}
 use Rattle.report.specs.Verdict.{turn_line, turn_lines}
-
--- "turn ", ten digits at most, and the end
-pub turn-short : (start : ℕ) → start < 2 ^ 32 → length (turn_line start) ≤ 16
-unfolding line
-turn-short start h = simp length-append (omega (arith, few 20 10 start (omega arith) (omega arith)))
 
 turns-joined : (xs ys : List ℕ) → turn_lines (xs ++ ys) ≡ turn_lines xs ++ turn_lines ys
 unfolding turn_lines
@@ -27,3 +23,17 @@ turns-one x = append-nil (turn_line x)
 pub turns_more : (starts : List ℕ) (i : ℕ) → i < length starts
     → turn_lines (take (i + 1) starts) ≡ turn_lines (take i starts) ++ turn_line (get_or starts i 0)
 turns_more starts i h = rw (add-one i, take-suc starts i 0 h, turns-joined, turns-one)
+
+-- round one of them
+pub turns_around : (starts : List ℕ) (i : ℕ) → i < length starts
+    → turn_lines starts ≡ turn_lines (take i starts) ++ (turn_line (get_or starts i 0) ++ turn_lines (drop (i + 1) starts))
+turns_around starts i h =
+    ap turn_lines (sym (take-append-drop (i + 1) starts)) ∙ turns-joined (take (i + 1) starts) (drop (i + 1) starts)
+    ∙ rw (turns_more starts i h) (append_assoc (turn_lines (take i starts)) _ _)
+
+-- the last five lines, one behind the other
+pub settings-joined : (s : Settings) → settings_lines s ≡ hex_line (115 ∷ 116 ∷ 97 ∷ 116 ∷ 117 ∷ 115 ∷ []) (status_bytes s)
+    ++ (time_line (116 ∷ 105 ∷ 109 ∷ 101 ∷ []) s.position
+    ++ (time_line (105 ∷ 110 ∷ []) s.inat ++ (time_line (111 ∷ 117 ∷ 116 ∷ []) s.outat ++ speed_line s.speed)))
+unfolding settings_lines time_lines
+settings-joined s = simp append_assoc

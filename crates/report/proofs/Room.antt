@@ -1,13 +1,26 @@
 -- What an output with room holds after a text is written.
+use Rattle.std.specs.Prelude.{Result, Ok, Err, IsOk}
 use Prim.Native.Nat.{ℕ, ◌≤◌}
 use mathlib.Core.Path.{◌≡◌, sym, ap, ◌∙◌}
+use mathlib.Core.Bool.{true, false}
 use mathlib.Core.List.{List}
 use native.Mathlib.Omega.{arith}
-use borrow.Author.Tests.{le-ltb}
+use borrow.Author.Tests.{le-ltb, lt-ltb}
+use lib.Dec.{ltb}
+use Rattle.std.proofs.Common.{inl, inr}
+use Rattle.std.proofs.lemmas.Bool.{cases_lt}
 use lib.ListN.{length, take, drop, length-take}
 use lib.Seq.{take-append_seam}
 use Rattle.io.specs.Counts.{IsPrefixLen}
-use Rattle.report.specs.Text.{written_in, written_out}
+use Rattle.refusal.specs.declared.Refusal.{Refusal}
+use Rattle.refusal.specs.declared.Refusal.TheVariants.{Room}
+use Rattle.refusal.proofs.Numbers.{refuses}
+use Rattle.text.specs.declared.Page.{Page}
+use Rattle.text.specs.Puts.{Adds}
+use Rattle.text.proofs.Putting.{whole}
+use Rattle.report.specs.Text.{Written, written_by, written_in, written_out}
+
+-- ---- an output with room
 
 module _ (room : ℕ) (text out : List ℕ) (enough : room ≤ length out) where
   pub long : (written_in room text out).len ≡ length text
@@ -18,8 +31,45 @@ module _ (room : ℕ) (text out : List ℕ) (enough : room ≤ length out) where
   unfolding written_in written_out
   told = rw (le-ltb _ _ enough) (take-append_seam text (drop (length text) out))
 
+  -- a call that writes is taken
+  pub taken : (r : Result ℕ Refusal) → written_by r ≡ written_in room text out → r ≡ Ok (length text)
+  unfolding written_in
+  taken (Ok len) e = ap Ok (ap (λ (w : Written). w.len) e ∙ long)
+  taken (Err x) e = absurd (refuses x (ap (λ (w : Written). w.no) e ∙ rw (le-ltb _ _ enough)))
+
+-- and without, one that is refused
+module _ (room : ℕ) (text out : List ℕ) (short : room ≤ length out → false ≡ true) where
+  small : ltb (length out) room ≡ true
+  small = elim (cases_lt (length out) room) [ inl h ↦ lt-ltb _ _ h | inr h ↦ let e = short h in cc ]
+
+  pub refusal : {e : Refusal} → e ≡ Room → written_by (Err e) ≡ written_in room text out
+  unfolding written_in
+  refusal is = rw (is, small)
+
+  pub unchanged : out ≡ written_out room text out
+  unfolding written_out
+  unchanged = rw small
+
 -- so many bytes are the text at the front
 pub counts : (n : ℕ) (out text : List ℕ) → n ≡ length text → take n out ≡ text → IsPrefixLen n out
 counts n out text l e =
     let k : n ≡ length (take n out) = l ∙ sym (ap (λ (xs : List ℕ). length xs) e) in
     (omega (arith, k, length-take n out), k)
+
+-- ---- a page with room
+
+module _ {A : Type 0} {a b : Page} {text : List ℕ} {r : Result A Refusal} (w : Adds a text b r) (room : ℕ) (start : a.end ≡ 0)
+    (enough : room ≤ length a.out.now) (short : length text ≤ room) where
+  pub succeeds : IsOk r
+  succeeds = (w.fits (omega arith)).0
+
+  pub answers : record { no = 0; len = b.end } ≡ written_in room text a.out.now
+  unfolding written_in
+  answers =
+      let p = (w.fits (omega arith)).1 in
+      let n : b.end ≡ length text = omega (arith, p.ends, start) in
+      rw (le-ltb _ _ enough, n)
+
+  pub outputs : b.out.now ≡ written_out room text a.out.now
+  unfolding written_out
+  outputs = rw (le-ltb _ _ enough) (whole (rw start at (w.fits (omega arith)).1))

@@ -1,63 +1,52 @@
 // What the programs print, as bytes in a lent buffer.
 #![tactic(auto)]
 
-ghost use Rattle.std.specs.Prelude.{◌≡◌, ◌+◌, ◌*◌, ◌<◌, ltb};
-ghost use Rattle.report.specs.Text.{written_in, written_out};
+ghost use Rattle.std.specs.Prelude.{◌≡◌, ◌+◌, ◌*◌, ◌<◌, ◌≤◌, ◌↔◌, length, IsOk, IsOkUnless};
+ghost use Rattle.report.specs.Text.{written_by, written_in, written_out};
 ghost use Rattle.report.specs.Verdict.{text_of, room_for};
 ghost use Rattle.report.specs.Transcript.{transcript, room_for as room_for_bytes};
 
 use marker::Marked;
+use refusal::Refusal;
+use text::Page;
 
 mod entries;
 mod standing;
 mod verdict;
 
-const ROOM: u8 = 1;
-
-// The length of the text, or the number that refuses the output.
-#[derive(Clone, Copy)]
-pub struct Written {
-    pub no: u8,
-    pub len: usize,
-}
-
-// Whether an output of so many bytes has no room for the longest text of so many parts.
-fn short(room: usize, fixed: usize, each: usize, parts: usize) -> bool
-    requires { 0 < each }
-    ensures { result ≡ ltb room (fixed + each * parts) }
+// Refuses an output that has no room for the longest text of so many parts.
+fn check_room(out: &[u8], fixed: usize, each: usize, parts: usize) -> Result<(), Refusal>
+    ensures fits { IsOk result ↔ (fixed + each * parts ≤ length out.now) }
+    ensures err { IsOkUnless result Refusal.Room }
 {
-    if room < fixed {
-        return true;
+    if parts.saturating_mul(each).saturating_add(fixed) <= out.len() {
+        Ok(())
+    } else {
+        Err(Refusal::Room)
     }
-    (room - fixed) / each < parts
 }
 
 // The text of a verdict.
-pub fn text(marked: Marked, starts: &[u32], out: &mut [u8]) -> Written
-    ensures answer { result ≡ written_in (room_for starts.now) (text_of marked starts.now) out.old }
+pub fn text(marked: Marked, starts: &[u32], out: &mut [u8]) -> Result<usize, Refusal>
+    ensures answer { written_by result ≡ written_in (room_for starts.now) (text_of marked starts.now) out.old }
     ensures output { out.new
         ≡ written_out (room_for starts.now) (text_of marked starts.now) out.old }
 {
-    if short(out.len(), 64, 16, starts.len()) {
-        return Written { no: ROOM, len: 0 };
-    }
-    Written {
-        no: 0,
-        len: verdict::put_text(out, marked, starts),
-    }
+    check_room(out, 64, 16, starts.len())?;
+    let mut page = Page { out, end: 0 };
+    verdict::put_text(&mut page, marked, starts)?;
+    Ok(page.end)
 }
 
-// What the deck says to a record's entries, and how it stands after them.
-pub fn transcript(bytes: &[u8], out: &mut [u8]) -> Written
-    ensures answer { result ≡ written_in (room_for_bytes bytes.now) (transcript bytes.now) out.old }
+// What the deck says to a record's entries, and how it stands after them. It stays beside `text`: one function for both would take a
+// closure that puts the text, and a contract over closures is no plainer.
+pub fn transcript(bytes: &[u8], out: &mut [u8]) -> Result<usize, Refusal>
+    ensures answer { written_by result ≡ written_in (room_for_bytes bytes.now) (transcript bytes.now) out.old }
     ensures output { out.new
         ≡ written_out (room_for_bytes bytes.now) (transcript bytes.now) out.old }
 {
-    if short(out.len(), 128, 108, bytes.len() / 12) {
-        return Written { no: ROOM, len: 0 };
-    }
-    Written {
-        no: 0,
-        len: entries::put_transcript(out, bytes),
-    }
+    check_room(out, 128, 108, bytes.len() / 12)?;
+    let mut page = Page { out, end: 0 };
+    entries::put_transcript(&mut page, bytes)?;
+    Ok(page.end)
 }

@@ -1,50 +1,37 @@
 // The lines of the program `mark`.
-ghost use Rattle.std.specs.Prelude.{◌+◌, ◌*◌, ◌≤◌, length};
-ghost use Rattle.report.specs.Verdict.{turn_line, turn_lines, verdict_line, text_of, room_for};
-ghost use Rattle.text.specs.Puts.{Puts};
+ghost use Rattle.report.specs.Verdict.{turn_lines, verdict_line, text_of};
+ghost use Rattle.text.specs.Puts.{Adds};
 
 use marker::Marked;
+use refusal::Refusal;
+use text::Page;
 
-// A line for a turn is at most 16 bytes long.
-fn put_turn(out: &mut [u8], at: usize, start: u32) -> usize
-    requires { at + 16 ≤ length out.old }
-    ensures puts { Puts out.old at (turn_line start) out.new result }
-    ensures upper_bound { result ≤ at + 16 }
+fn put_turns(page: &mut Page<'_>, starts: &[u32]) -> Result<(), Refusal>
+    ensures { Adds page.old (turn_lines starts.now) page.new result }
 {
-    text::line(out, at, b"turn ", start as u64).end
-}
-
-fn put_turns(out: &mut [u8], at: usize, starts: &[u32]) -> usize
-    requires { at + 16 * length starts.now ≤ length out.old }
-    ensures { Puts out.old at (turn_lines starts.now) out.new result }
-{
-    let mut end = at;
-    let mut i: usize = 0;
-    while i < starts.len() {
-        end = put_turn(out, end, starts[i]);
-        i += 1;
+    for start in starts {
+        page.line(b"turn ", u64::from(*start))?;
     }
-    end
+    Ok(())
 }
 
-fn put_verdict(out: &mut [u8], marked: Marked) -> usize
-    requires { 64 ≤ length out.old }
-    ensures puts { Puts out.old 0 (verdict_line marked) out.new result }
-    ensures upper_bound { result ≤ 51 }
+// Numbers in place of an enum, and so in `put_text`: what may not change, `report::text` takes any of them, also those of no verdict.
+fn put_verdict(page: &mut Page<'_>, marked: Marked) -> Result<(), Refusal>
+    ensures { Adds page.old (verdict_line marked) page.new result }
 {
     if marked.fault == 0 {
-        return text::line(out, 0, b"sound ", marked.count as u64).end;
+        page.line(b"sound ", marked.count as u64)
+    } else {
+        page.at_line(b"fault ", u64::from(marked.fault), marked.place as u64)
     }
-    text::at_line(out, 0, b"fault ", marked.fault as u64, marked.place as u64).end
 }
 
-pub(super) fn put_text(out: &mut [u8], marked: Marked, starts: &[u32]) -> usize
-    requires { room_for starts.now ≤ length out.old }
-    ensures { Puts out.old 0 (text_of marked starts.now) out.new result }
+pub(super) fn put_text(page: &mut Page<'_>, marked: Marked, starts: &[u32]) -> Result<(), Refusal>
+    ensures { Adds page.old (text_of marked starts.now) page.new result }
 {
     if marked.no != 0 {
-        return text::line(out, 0, b"refused ", marked.no as u64).end;
+        return page.line(b"refused ", u64::from(marked.no));
     }
-    let end = put_verdict(out, marked);
-    put_turns(out, end, starts)
+    put_verdict(page, marked)?;
+    put_turns(page, starts)
 }

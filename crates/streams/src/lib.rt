@@ -20,6 +20,7 @@ pub fn read_full<R: Read>(input: &mut R, space: &mut [u8]) -> Result<usize, Cut>
     ensures all { IfOk result (λ count. count < length space.new → IsAtEnd (R.remaining input.new)) }
 {
     let mut count = 0;
+    // A `for` is no plainer: a read brings any number of bytes.
     while count < space.len() {
         match input.read(&mut space[count..]) {
             Ok(0) => break,

@@ -10,7 +10,7 @@ fn hex_digit(n: u8) -> u8
     requires { n < 16 }
     ensures { result ≡ hex_digit n }
 {
-    if n < 10 { b'0' + n } else { b'A' - 10 + n }
+    if n < 10 { b'0' + n } else { b'A' + n - 10 }
 }
 
 impl Page<'_> {

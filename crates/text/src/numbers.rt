@@ -4,13 +4,14 @@ ghost use Rattle.text.specs.Text.{decimal, line, at_line};
 ghost use Rattle.text.specs.Writes.{Writes};
 
 use super::Page;
+use itoa::Buffer;
 use refusal::Refusal;
 
 fn digit_count(n: u64) -> usize
     ensures count { result ≡ length (decimal n) }
     ensures few { result ≤ 20 }
 {
-    io::decimal(n, &mut [0; 20])
+    Buffer::new().format(n).len()
 }
 
 impl Page<'_> {
@@ -18,9 +19,7 @@ impl Page<'_> {
     pub fn decimal(&mut self, n: u64) -> Result<(), Refusal>
         ensures { Writes self.old (decimal n) self.new result }
     {
-        let mut digits = [0; 20];
-        let count = io::decimal(n, &mut digits);
-        self.words(&digits[..count])
+        self.words(Buffer::new().format(n).as_bytes())
     }
 
     // Some words, a number and the line's end.

@@ -1,23 +1,24 @@
--- `answer::answer` meets its contract.
-use mathlib.Core.Path.{◌≡◌}
+-- `answer::answer` meets its contract: an output with room is taken.
+use mathlib.Core.Path.{◌≡◌, refl, sym, ap, ◌∙◌}
 use lib.ListN.{length, take}
+use Rattle.report.specs.Text.{Written, written_by, written_in}
 use Rattle.report.specs.Transcript.{transcript, room_for}
-use Rattle.report.proofs.Room.{long, told, counts}
+use Rattle.report.proofs.Room.{long, told, taken, counts}
 use Rattle.answer.proofs.answer.Goals as goal
 
-pub returns-clause-prefix_len : goal.returns-clause-prefix_len
-returns-clause-prefix_len c =
+pub unwrap-requires : goal.unwrap-requires
+unwrap-requires c =
     let t = c.transcript in
     let bytes = c.args.bytes.now in
-    let out = c.args.out.now in
-    let text = transcript bytes in
-    let n : t.result.len ≡ length text = rw t.ensures.answer (long (room_for bytes) text out c.requires) in
-    let e : take t.result.len t.new.out ≡ text = rw (t.ensures.answer, t.ensures.output) (told (room_for bytes) text out c.requires) in
-    counts _ _ _ n e
+    rw (taken (room_for bytes) (transcript bytes) c.args.out.now c.requires t.result t.ensures.answer) refl
 
-pub returns-clause-out_after : goal.returns-clause-out_after
-returns-clause-out_after c =
+pub returns : goal.returns
+returns c =
     let t = c.transcript in
-    let bytes = c.args.bytes.now in
     let out = c.args.out.now in
-    rw (t.ensures.answer, t.ensures.output) (told (room_for bytes) (transcript bytes) out c.requires)
+    let room = room_for c.args.bytes.now in
+    let text = transcript c.args.bytes.now in
+    let n = c.unwrap.result in
+    let is : n ≡ (written_in room text out).len = ap (λ (w : Written). w.len) (ap written_by (sym c.unwrap.ensures) ∙ t.ensures.answer) in
+    let e : take n t.new.out ≡ text = rw (is, t.ensures.output) (told room text out c.requires) in
+    record { prefix_len = counts n _ text (is ∙ long room text out c.requires) e; out_after = e }

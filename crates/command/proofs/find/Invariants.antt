@@ -1,7 +1,16 @@
--- What is left of the list gives the same answer as the whole.
-use Rattle.std.proofs.Common.{◌≡◌, drop}
-use Rattle.command.specs.Commands.{lookup}
+-- What is left of the list from `i` gives the same answer as the whole: one invariant for the three loops.
+use Rattle.std.proofs.Common.{◌≡◌, ℕ, drop}
+use Rattle.command.specs.Commands.{commands, lookup}
 use Rattle.command.proofs.find.Given as goal
 
-abbrev pub invariant-loop-row : goal.invariant-loop-row
-invariant-loop-row l = lookup (drop l.row-index l.row-items) l.first l.command ≡ lookup l.row-items l.first l.command
+abbrev Rest : ℕ → ℕ → ℕ → Type 0
+Rest i f c = lookup (drop i commands) f c ≡ lookup commands f c
+
+abbrev pub invariant-loop-i : goal.invariant-loop-i
+invariant-loop-i l = Rest l.i l.first l.command
+
+abbrev pub invariant-loop-i-2 : goal.invariant-loop-i-2
+invariant-loop-i-2 l = Rest l.i l.first l.command
+
+abbrev pub invariant-loop-i-3 : goal.invariant-loop-i-3
+invariant-loop-i-3 l = Rest l.i l.first l.command

@@ -1,25 +1,35 @@
 -- `report::transcript` meets its contract.
-use mathlib.Core.Path.{◌≡◌, sym, ◌∙◌}
+use mathlib.Core.Path.{refl, sym, ap}
 use native.Mathlib.Omega.{arith}
-use borrow.Author.Tests.{ltb-false}
-use lib.ListN.{length}
-use Rattle.text.proofs.Putting.{whole}
-use Rattle.report.specs.Text.{written_in, written_out}
-use Rattle.report.specs.Transcript.{transcript}
+use Rattle.std.specs.Prelude.{is_ok}
+use Rattle.std.proofs.lemmas.Result.{err_from_is_err_and}
+use Rattle.std.proofs.lemmas.Grind.{common_steps}
+use Rattle.report.specs.Transcript.{transcript, room_for}
+use Rattle.report.proofs.Lengths.{transcript-short}
+use Rattle.report.proofs.Room.{refusal, unchanged, succeeds, answers, outputs}
 use Rattle.report.proofs.transcript.Goals as goal
 
-pub returns-then-short : goal.returns-then-short
-unfolding written_in written_out
-returns-then-short c = let e = sym c.short.ensures ∙ c.if-short.true in record { answer = simp e; output = simp e }
+pub returns-in_err-check_room : goal.returns-in_err-check_room
+returns-in_err-check_room c =
+    let p = err_from_is_err_and c.from_residual.result c.from_residual.ensures.1 in
+    let e = c.in_err-check_room.ensures in
+    let a = c.args in
+    let room = room_for a.bytes.now in
+    let text = transcript a.bytes.now in
+    record { answer = rw (p.1, p.2) (refusal room text a.out.now e.fits.1 e.err); output = unchanged room text a.out.now e.fits.1 }
 
-pub put_transcript-requires : goal.put_transcript-requires
-put_transcript-requires c = ltb-false _ _ (sym c.short.ensures ∙ c.if-short.false)
+pub returns-in_err-put_transcript : goal.returns-in_err-put_transcript
+returns-in_err-put_transcript c =
+    let room = c.in_ok-check_room.ensures.fits.0 refl in
+    let short = transcript-short c.args.bytes.now in
+    let ok = succeeds c.put_transcript.ensures (room_for c.args.bytes.now) refl room short in
+    let err = ap is_ok c.in_err-put_transcript.was in
+    absurd (cc)
 
 pub returns : goal.returns
-unfolding written_in written_out
 returns c =
-    let bytes = c.args.bytes.now in
-    let e = sym c.short.ensures ∙ c.if-short.false in
-    let p = c.put_transcript in
-    let n : p.result ≡ length (transcript bytes) = omega (arith, p.ensures.ends) in
-    record { answer = rw (e, n); output = rw e (whole p.ensures) }
+    let room = c.in_ok-check_room.ensures.fits.0 refl in
+    let short = transcript-short c.args.bytes.now in
+    let same = sym c.put_transcript.ensures.same in
+    let out = outputs c.put_transcript.ensures (room_for c.args.bytes.now) refl room short in
+    record { answer = answers c.put_transcript.ensures (room_for c.args.bytes.now) refl room short; output = grind (arith, common_steps) }

@@ -1,22 +1,18 @@
--- `put_answer` meets its contract.
-use native.Mathlib.Omega.{arith}
-use lib.ListN.{length-take, length-drop}
-use Rattle.record.proofs.Records.{record-append}
-use Rattle.text.proofs.Putting.{joined}
-use Rattle.completion.proofs.Written.{lent-rest}
-use Rattle.completion.proofs.Costs.{length_both}
+-- `put_answer` meets its contract, by how many replies there are.
+use Rattle.record.proofs.Records.{record-one, record-append}
+use Rattle.text.proofs.Writing.{behind, stops}
 use Rattle.completion.proofs.put.put_answer.Goals as goal
 
-pub put_reply-requires : goal.put_reply-requires
-put_reply-requires c =
-    let p = c.put_both-from in
-    let n = length_both c.args.e c.args.first c.args.bytes.now (omega (arith, c.requires.0)) in (
-      simp (length-take, length-drop) (omega (arith, c.requires.0)),
-      omega (arith, c.requires.1, p.ensures.ends, n, p.auto.out),
-      c.requires.4,
-    )
+pub returns-in-None-default : goal.returns-in-None-default
+returns-in-None-default c = rw (c.in-None-default.is-0, record-one) c.put_entry.ensures
 
-pub returns : goal.returns
-returns c =
-    let e = lent-rest c.args.bytes.now c.args.first.len in
-    rw (record-append, ← e) (joined c.put_both-from.ensures c.put_reply.ensures)
+pub returns-in_err-put_both-in-Some-Some : goal.returns-in_err-put_both-in-Some-Some
+returns-in_err-put_both-in-Some-Some c =
+    let both = rw c.split_at.ensures.front at c.put_both-in-Some-Some.ensures in
+    rw (c.in-Some-Some.is-0, c.in-Some-Some.is-1, record-append) (stops both c.in_err-put_both-in-Some-Some.was _ _)
+
+pub returns-in_ok-put_both-in-Some-Some : goal.returns-in_ok-put_both-in-Some-Some
+returns-in_ok-put_both-in-Some-Some c =
+    let both = rw (c.split_at.ensures.front, c.in_ok-put_both-in-Some-Some.was) at c.put_both-in-Some-Some.ensures in
+    let second = rw c.split_at.ensures.back at c.put_reply.ensures in
+    rw (c.in-Some-Some.is-0, c.in-Some-Some.is-1, record-append) (behind both second)

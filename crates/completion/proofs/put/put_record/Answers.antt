@@ -1,38 +1,38 @@
 -- `put_record` meets its contract: the entries that the loop has passed are put, with the replies to them.
-use Prim.Native.Nat.{◌/◌, ◌<◌}
-use mathlib.Core.Path.{ap}
-use native.Mathlib.Omega.{arith}
-use borrow.Author.Rules.{rules}
-use lib.ListN.{length}
-use Rattle.record.specs.declared.Fetched.{Fetched}
-use Rattle.completion.proofs.Passed.{at_first, room-here, follows-here, passed, at_last}
+use Rattle.record.specs.Bytes.{entries_of}
+use Rattle.cursor.proofs.Places.{comes, ends}
+use Rattle.completion.proofs.Passed.{at_first, follows-here, passed, stopped, at_last}
 use Rattle.completion.proofs.put.put_record.Goals as goal
 
-pub loop-i-init : goal.loop-i-init
-loop-i-init c =
-    at_first c.args.bytes.now c.args.out.now c.power_on-deck.result c.power_on-deck.ensures c.requires.1
-
-pub put_step-told-requires : goal.put_step-told-requires
-put_step-told-requires c =
-    let bytes = c.args.bytes.now in
-    let i = c.loop-i in
-    let r = c.read-read in
-    let h : i.i < length bytes / 12 = search rules in
-    let is = ap (λ (x : Fetched). x.entry) r.ensures in (
-      omega (arith, room-here bytes c.args.out.now i.out i.deck i.end i.i i.invariant h r.result.entry is, i.invariant.size, c.requires.0),
-      follows-here bytes c.args.out.now i.out i.deck i.end i.i i.invariant h r.result.entry is,
-    )
-
-pub loop-i-preserved : goal.loop-i-preserved
-loop-i-preserved c =
-    let p = c.put_step-told in
+pub loop-e-init : goal.loop-e-init
+loop-e-init c =
     let a = c.args in
-    let i = c.loop-i in
-    passed a.bytes.now a.out.now i.out i.deck i.end i.i i.invariant (search rules) c.read-read.result.entry
-    (ap (λ (x : Fetched). x.entry) c.read-read.ensures) p.ensures.0 p.ensures.1 p.ensures.2 p.auto.out
+    let first = at_first (entries_of a.bytes.now) a.page.now c.power_on-deck.result c.power_on-deck.ensures c.requires in
+    (rw (c.into_iter-e-iterator.ensures.into_iter_gives, c.at-e-items.ensures) first, tt, tt)
+
+pub put_step-requires : goal.put_step-requires
+put_step-requires c =
+    let a = c.args in
+    let l = c.loop-e in
+    follows-here (entries_of a.bytes.now) a.page.now (rw (comes l.e-iterator c.in-Some.ensures.steps) at l.invariant.0)
+
+pub returns-in_err-deck : goal.returns-in_err-deck
+returns-in_err-deck c =
+    let a = c.args in
+    let l = c.loop-e in
+    let v = rw (comes l.e-iterator c.in-Some.ensures.steps) at l.invariant.0 in
+    stopped (entries_of a.bytes.now) a.page.now v c.put_step.ensures.puts c.in_err-deck.was _
+
+pub loop-e-preserved : goal.loop-e-preserved
+loop-e-preserved c =
+    let a = c.args in
+    let l = c.loop-e in
+    let v = rw (comes l.e-iterator c.in-Some.ensures.steps) at l.invariant.0 in
+    let d = c.in_ok-deck.ensures.deck in
+    (passed (entries_of a.bytes.now) a.page.now v c.put_step.ensures.puts c.in_ok-deck.was d.0 d.1, tt, tt)
 
 pub returns : goal.returns
 returns c =
     let a = c.args in
-    let i = c.loop-i in
-    at_last a.bytes.now a.out.now i.out i.deck i.end i.i i.invariant (omega arith)
+    let l = c.loop-e in
+    at_last (entries_of a.bytes.now) a.page.now (rw (ends l.e-iterator c.in-None.ensures.steps) at l.invariant.0)

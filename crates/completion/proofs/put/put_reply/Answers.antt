@@ -1,32 +1,29 @@
--- `put_reply` meets its contract: so many bytes of the reply as the loop has passed are put.
-use mathlib.Core.Path.{◌≡◌, refl, ◌∙◌}
-use native.Mathlib.Omega.{arith}
-use lib.ListN.{get_or}
-use Rattle.record.specs.Entries.{entry}
-use Rattle.record.proofs.Records.{length-bytes, record-none}
-use Rattle.text.proofs.Putting.{none}
-use Rattle.completion.proofs.Written.{reply-more}
+-- `put_reply` meets its contract: the bytes that the loop has passed are put.
+use lib.Seq.{take_all}
+use Rattle.record.proofs.Records.{record-none}
+use Rattle.text.proofs.Writing.{nothing, behind, stops}
+use Rattle.completion.proofs.Written.{sent-more, sent-around}
 use Rattle.completion.proofs.put.put_reply.Goals as goal
 
-pub loop-i-init : goal.loop-i-init
-loop-i-init c = (omega arith, refl, omega arith, rw record-none (none _ _))
+pub loop-byte-init : goal.loop-byte-init
+loop-byte-init c = rw record-none (nothing _)
 
-pub overflow_cast-content : goal.overflow_cast-content
-overflow_cast-content c = omega (arith, c.shared_slice_known-in-loop-i-1.given c.loop-i.i)
-
-pub loop-i-preserved : goal.loop-i-preserved
-loop-i-preserved c =
-    let p = c.put_entry-end in
+pub loop-byte-preserved : goal.loop-byte-preserved
+loop-byte-preserved c =
     let a = c.args in
-    let byte = entry 1 0 (get_or a.bytes.now c.loop-i.i 0) a.sent.due in (
-      omega arith,
-      p.auto.out ∙ c.loop-i.invariant.1,
-      omega (arith, p.ensures.ends, length-bytes byte, c.loop-i.invariant.2),
-      reply-more a.sent.due c.loop-i.i a.bytes.now (omega arith) c.loop-i.invariant.3 p.ensures,
-    )
+    let l = c.loop-byte in
+    let put = rw (c.from.ensures, c.in_ok-put_entry.was) at c.put_entry.ensures in
+    rw (sent-more a.due l.byte-index a.bytes.now c.loop-byte-test.true) (behind l.invariant put)
+
+pub returns-in_err-put_entry : goal.returns-in_err-put_entry
+returns-in_err-put_entry c =
+    let a = c.args in
+    let l = c.loop-byte in
+    rw (sent-around a.due l.byte-index a.bytes.now c.loop-byte-test.true)
+    (behind l.invariant (stops (rw c.from.ensures at c.put_entry.ensures) c.in_err-put_entry.was _ _))
 
 pub returns : goal.returns
 returns c =
-    let l = c.loop-i in
-    let n : l.i ≡ c.args.sent.len = omega arith in
-    rw n at l.invariant.3
+    let a = c.args in
+    let l = c.loop-byte in
+    rw (take_all l.byte-index a.bytes.now c.loop-byte-test.false) at l.invariant

@@ -12,7 +12,6 @@ use Rattle.deck.specs.declared.Deck.{Deck as Held}
 use Rattle.deck.specs.Calls.{view}
 use Rattle.deck.proofs.Held.{in_parts}
 use Rattle.deck.proofs.Output.{executed-shown, executed-output}
-use Rattle.deck.proofs.Made.{made-shut}
 use Rattle.deck.proofs.Seen.{same-call}
 use Rattle.deck.proofs.Deck.full.Goals as goal
 
@@ -35,26 +34,12 @@ unwrap-done-requires c =
     let a = c.args in
     rw (done a.self a.content a.out.now c.requires.0 c.requires.1.1 c.execute.result c.execute.ensures.answer) refl
 
-pub returns-then-done : goal.returns-then-done
-returns-then-done c =
+pub returns : goal.returns
+returns c =
     let a = c.args in
     let e = c.execute.ensures in
+    let v = c.closed.ensures in
     let k = done a.self a.content a.out.now c.requires.0 c.requires.1.1 c.execute.result e.answer in
     let s : c.unwrap-done.result ≡ shown (outcome a.self a.content a.out.now c.requires.0 c.requires.1.1) = cc in
     let o = put a.self a.content a.out.now c.requires.0 c.requires.1.1 _ e.output in
-    record {
-      seen-is = same-call refl refl (rw (s, rw s at c.if-done.true)) (rw s) refl (rw append-nil o);
-      made = λ _. made-shut _ refl refl c.none-self.ensures;
-    }
-
-pub returns-else-done : goal.returns-else-done
-returns-else-done c =
-    let a = c.args in
-    let e = c.execute.ensures in
-    let k = done a.self a.content a.out.now c.requires.0 c.requires.1.1 c.execute.result e.answer in
-    let s : c.unwrap-done.result ≡ shown (outcome a.self a.content a.out.now c.requires.0 c.requires.1.1) = cc in
-    let o = put a.self a.content a.out.now c.requires.0 c.requires.1.1 _ e.output in
-    record {
-      seen-is = same-call refl refl (rw (s, rw s at c.if-done.false)) (rw s) refl (rw append-nil o);
-      made = λ _. made-shut _ refl refl c.none-self.ensures;
-    }
+    record { seen-is = same-call refl v.1 (rw (v.0, s)) (rw s) refl (rw append-nil o); made = λ _. v.2 }

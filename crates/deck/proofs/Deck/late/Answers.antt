@@ -41,7 +41,7 @@ returns-then-flags-ne0 c =
     let a = c.args in
     let k = c.nak-answer.ensures.seen-is in
     let m = c.nak.ensures in
-    let v = c.void.ensures in
+    let v = c.closed.ensures in
     let part = mid_of 4 (length c.nak-answer.new.out - 4) c.nak-answer.new.out in
     let room : 4 ≤ length part = simp (length-take, length-drop) (omega arith) in
     let z = nak-answer a.flags part room c.nak.result m.0 in
@@ -50,7 +50,7 @@ returns-then-flags-ne0 c =
       seen-is = rw (late-flagged (view a.self) a.time a.content a.flags c.requires.0 (rw (← free) c.if-time-deck.false)
           c.if-flags-ne0.true)
           (same-call refl (v.1 ∙ ap (λ (x : Call). x.clock) k)
-          (v.0 ∙ ap (λ (x : Call). (voided x.deck a.flags a.time).deck) k)
+          (rw c.opens_quiet.ensures at v.0 ∙ ap (λ (x : Call). (voided x.deck a.flags a.time).deck) k)
           (ap (λ (x : Call). x.first) k) (rw len)
           (behind (nak time_out) (nak a.flags) a.out.now _ _ 4 4 refl (ap (λ (x : Call). x.out) k)
           (m.1 ∙ nak-output a.flags part room)));

@@ -12,8 +12,8 @@ pub returns : goal.returns
 returns c =
     let a = c.args in
     let n = c.nak.ensures in
-    let v = c.void.ensures in
+    let v = c.closed.ensures in
     let z = nak-answer a.why a.out.now (omega arith) c.nak.result n.0 in
     let len : c.unwrap-len.result ≡ 4 = cc in
     let y = nak-output a.why a.out.now (omega arith) in
-    record { seen-is = same-call refl v.1 v.0 (rw len) refl (n.1 ∙ y); made = λ _. v.2 }
+    record { seen-is = same-call refl v.1 (rw (v.0, c.opens_quiet.ensures)) (rw len) refl (n.1 ∙ y); made = λ _. v.2 }

@@ -1,26 +1,39 @@
 -- `put_record` meets its contract: the lines of the entries that the loop has passed are put.
-use mathlib.Core.Path.{ap}
-use borrow.Author.Rules.{rules}
-use Rattle.record.specs.declared.Fetched.{Fetched}
-use Rattle.report.proofs.Passed.{at_first, passed, at_last}
+use native.Mathlib.Omega.{arith}
+use Rattle.std.proofs.Common.{inl}
+use Rattle.deck.specs.Calls.{new_deck}
+use Rattle.record.specs.Bytes.{entries_of}
+use Rattle.report.specs.Answered.{standing}
+use Rattle.cursor.proofs.Places.{comes, ends}
+use Rattle.record.proofs.Bytes.{length-entries}
+use Rattle.report.proofs.Passed.{at_first, passed, stopped, at_last}
 use Rattle.report.proofs.entries.put_record.Goals as goal
 
-pub loop-i-init : goal.loop-i-init
-loop-i-init c =
-    let a = c.args in
-    at_first a.bytes.now a.out.now c.power_on-deck.result c.power_on-deck.ensures
+pub loop-k-init : goal.loop-k-init
+loop-k-init c =
+    let bytes = c.args.bytes.now in
+    let s = c.enumerate-k-items.ensures in
+    rw (c.into_iter-k-iterator.ensures.into_iter_gives, s.source, s.count, c.at.ensures, c.power_on-deck.ensures)
+    (at_first _ 0 (standing new_deck) (entries_of bytes), (tt, tt, inl (omega (arith, length-entries bytes))), tt)
 
-pub loop-i-preserved : goal.loop-i-preserved
-loop-i-preserved c =
-    let p = c.put_entry-told in
-    let a = c.args in
-    passed a.bytes.now a.out.now c.loop-i.out c.loop-i.deck c.loop-i.end c.loop-i.i c.loop-i.invariant (search rules)
-    c.read-read.result.entry (ap (λ (x : Fetched). x.entry) c.read-read.ensures) p.new.out p.result.deck p.result.end
-    p.ensures.0 p.ensures.1 p.ensures.2 p.auto.out
+pub returns-in_err-put_entry : goal.returns-in_err-put_entry
+returns-in_err-put_entry c =
+    let l = c.loop-k in
+    let steps = c.in-Some.ensures.steps in
+    let v = rw (comes l.k-iterator.iter steps.0) at l.invariant.0 in
+    stopped v (rw steps.1 at c.put_entry.ensures.lines) c.in_err-put_entry.was _
+
+pub loop-k-preserved : goal.loop-k-preserved
+loop-k-preserved c =
+    let l = c.loop-k in
+    let steps = c.in-Some.ensures.steps in
+    let goes = c.in-Some.ensures.goes in
+    let e = c.put_entry.ensures in
+    let v = rw (comes l.k-iterator.iter steps.0) at l.invariant.0 in
+    let lines = rw (steps.1, c.in_ok-put_entry.was) at e.lines in
+    (rw (steps.2, e.after) (passed v lines), goes.keeps, (goes.on l.invariant.2).1)
 
 pub returns : goal.returns
 returns c =
-    let p = c.put_settings in
-    let a = c.args in
-    at_last a.bytes.now a.out.now c.loop-i.out c.loop-i.deck c.loop-i.end c.loop-i.i c.loop-i.invariant (search rules)
-    p.new.out p.result p.ensures.puts
+    let l = c.loop-k in
+    at_last (rw (ends l.k-iterator.iter c.in-None.ensures.steps.0) at l.invariant.0) c.put_settings.ensures

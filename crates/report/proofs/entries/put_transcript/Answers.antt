@@ -1,19 +1,13 @@
 -- `put_transcript` meets its contract.
 use mathlib.Core.Path.{sym, ◌∙◌}
-use native.Mathlib.Omega.{arith}
-use Rattle.text.proofs.Lengths.{line-few}
-use Rattle.text.proofs.Writing.{within}
+use Rattle.text.proofs.Writing.{adds}
 use Rattle.report.specs.Transcript.{transcript}
 use Rattle.report.proofs.entries.put_transcript.Goals as goal
 
 pub returns-then-not-is_record : goal.returns-then-not-is_record
 unfolding transcript
-returns-then-not-is_record c =
-    let e = sym c.is_record.ensures ∙ c.if-not-is_record.true in
-    rw e (within c.line.ensures (line-few _ _) (omega arith)).0
+returns-then-not-is_record c = let e = sym c.is_record.ensures ∙ c.if-not-is_record.true in rw e (adds c.line.ensures)
 
 pub returns : goal.returns
 unfolding transcript
-returns c =
-    let e = sym c.is_record.ensures ∙ c.if-not-is_record.false in
-    rw e c.put_record.ensures
+returns c = let e = sym c.is_record.ensures ∙ c.if-not-is_record.false in rw e c.put_record.ensures

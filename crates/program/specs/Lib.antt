@@ -1,0 +1,2 @@
+-- What the contracts of `program` mean.
+pub mod Messages
