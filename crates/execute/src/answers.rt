@@ -11,8 +11,8 @@ use effects::{perform, takes};
 use settings::{Settings, Which};
 
 // A reply that is no NAK.
-fn answer(settings: Settings, group: u8, command: u8, data: &[u8], out: &mut [u8]) -> Executed
-    requires { (group ≤ 15) × (length «data».now ≤ 15) × (18 ≤ length out.old) }
+fn answer(settings: Settings, group: u8, command: u8, data: &[u8], out: &mut [u8; 18]) -> Executed
+    requires { (group ≤ 15) × (length «data».now ≤ 15) }
     ensures answer { result ≡ shown (answered settings group command «data».now) }
     ensures output { out.new ≡ shown_out (answered settings group command «data».now) out.old }
 {
@@ -23,8 +23,7 @@ fn answer(settings: Settings, group: u8, command: u8, data: &[u8], out: &mut [u8
     }
 }
 
-pub(super) fn refuse(settings: Settings, fault: Fault, out: &mut [u8]) -> Executed
-    requires { 18 ≤ length out.old }
+pub(super) fn refuse(settings: Settings, fault: Fault, out: &mut [u8; 18]) -> Executed
     ensures answer { result ≡ shown (refused settings (why_of fault)) }
     ensures output { out.new ≡ shown_out (refused settings (why_of fault)) out.old }
 {
@@ -36,8 +35,7 @@ pub(super) fn refuse(settings: Settings, fault: Fault, out: &mut [u8]) -> Execut
     }
 }
 
-fn acknowledge(effect: Effect, settings: Settings, data: [u8; 4], out: &mut [u8]) -> Executed
-    requires { 18 ≤ length out.old }
+fn acknowledge(effect: Effect, settings: Settings, data: [u8; 4], out: &mut [u8; 18]) -> Executed
     ensures answer { result ≡ shown (carry (Some (ReplyKind.Ack effect)) settings «data») }
     ensures output { out.new ≡ shown_out (carry (Some (ReplyKind.Ack effect)) settings «data») out.old }
 {
@@ -57,8 +55,7 @@ fn point_code(which: Which) -> u8
     }
 }
 
-fn point_time(which: Which, settings: Settings, out: &mut [u8]) -> Executed
-    requires { 18 ≤ length out.old }
+fn point_time(which: Which, settings: Settings, out: &mut [u8; 18]) -> Executed
     ensures answer { result ≡ shown (carry (Some (ReplyKind.PointTime which)) settings []) }
     ensures output { out.new ≡ shown_out (carry (Some (ReplyKind.PointTime which)) settings []) out.old }
 {
@@ -66,8 +63,7 @@ fn point_time(which: Which, settings: Settings, out: &mut [u8]) -> Executed
     answer(settings, 0x7, point_code(which), &time, out)
 }
 
-fn tape_time(settings: Settings, data: [u8; 4], out: &mut [u8]) -> Executed
-    requires { 18 ≤ length out.old }
+fn tape_time(settings: Settings, data: [u8; 4], out: &mut [u8; 18]) -> Executed
     ensures answer { result ≡ shown (carry (Some ReplyKind.TapeTime) settings «data») }
     ensures output { out.new ≡ shown_out (carry (Some ReplyKind.TapeTime) settings «data») out.old }
 {
@@ -80,8 +76,7 @@ fn tape_time(settings: Settings, data: [u8; 4], out: &mut [u8]) -> Executed
     answer(settings, 0x7, code, &time, out)
 }
 
-fn status(settings: Settings, data: [u8; 4], out: &mut [u8]) -> Executed
-    requires { 18 ≤ length out.old }
+fn status(settings: Settings, data: [u8; 4], out: &mut [u8; 18]) -> Executed
     ensures answer { result ≡ shown (carry (Some ReplyKind.Status) settings «data») }
     ensures output { out.new ≡ shown_out (carry (Some ReplyKind.Status) settings «data») out.old }
 {
@@ -99,9 +94,8 @@ pub(super) fn carry(
     kind: Option<ReplyKind>,
     settings: Settings,
     data: [u8; 4],
-    out: &mut [u8],
+    out: &mut [u8; 18],
 ) -> Executed
-    requires { 18 ≤ length out.old }
     ensures answer { result ≡ shown (carry kind settings «data») }
     ensures output { out.new ≡ shown_out (carry kind settings «data») out.old }
 {

@@ -4,7 +4,7 @@
 ghost use Rattle.std.specs.Prelude.{◌≡◌, [], ◌∷◌};
 ghost use Rattle.block.specs.Write.{written_by, written, written_out};
 ghost use Rattle.execute.specs.Replies.{opens_quiet};
-ghost use Rattle.execute.specs.Execute.{why_of, block_in, executed, executed_out};
+ghost use Rattle.execute.specs.Execute.{why_of, block_in, execute, shown, shown_out, executed, executed_out};
 
 use packed::Tail;
 use refusal::Refusal;
@@ -63,21 +63,29 @@ pub fn nak(why: u8, out: &mut [u8]) -> Result<usize, Refusal>
     block::write(0x1, 0x12, &[why], out)
 }
 
+// The same, with room for the longest reply.
+fn run(settings: Settings, block: FullBlock, out: &mut [u8; 18]) -> Executed
+    ensures answer { result ≡ shown (execute settings (block_in block.first block.count block.tail block.last)) }
+    ensures output { out.new ≡ shown_out (execute settings (block_in block.first block.count block.tail block.last)) out.old }
+{
+    if LISTED < block.count || block.count != usize::from(block.first & 15) + 1 {
+        return answers::refuse(settings, block.fault(), out);
+    }
+    let short = block.short();
+    if short.sum(block.first) != block.last {
+        return answers::refuse(settings, Fault::Checksum, out);
+    }
+    let kind = command::find(block.first, short.command);
+    answers::carry(kind, settings, short.data, out)
+}
+
 // What a full block does to the settings, with the reply at the front of the output.
 pub fn execute(settings: Settings, block: FullBlock, out: &mut [u8]) -> Result<Executed, Refusal>
     ensures answer { result ≡ executed settings (block_in block.first block.count block.tail block.last) out.old }
     ensures output { out.new ≡ executed_out settings (block_in block.first block.count block.tail block.last) out.old }
 {
-    if out.len() < 18 {
-        return Err(Refusal::Room);
+    match out.first_chunk_mut::<18>() {
+        Some(front) => Ok(run(settings, block, front)),
+        None => Err(Refusal::Room),
     }
-    if LISTED < block.count || block.count != usize::from(block.first & 15) + 1 {
-        return Ok(answers::refuse(settings, block.fault(), out));
-    }
-    let short = block.short();
-    if short.sum(block.first) != block.last {
-        return Ok(answers::refuse(settings, Fault::Checksum, out));
-    }
-    let kind = command::find(block.first, short.command);
-    Ok(answers::carry(kind, settings, short.data, out))
 }

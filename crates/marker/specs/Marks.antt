@@ -1,14 +1,17 @@
 -- Document 01, "Line record and turns" and "Numbers that calls return": what the marker hands out.
-use Rattle.std.specs.Prelude.{ℕ, ◌/◌, ◌≤◌, ◌<◌, ◌≡◌, Bool, cond, List, Result, Ok, Err, ltb, length, take, drop, get_or}
+use Rattle.std.specs.Prelude.{ℕ, ◌/◌, ◌≤◌, ◌≡◌, true, false, cond, List, Result, Ok, Err, ltb, length, take, drop}
 use Rattle.refusal.specs.declared.Refusal.{Refusal}
 use Rattle.refusal.specs.Numbers.{number_of}
-use Rattle.record.specs.Bytes.{entries_of, no_entry, is_record}
+use Rattle.record.specs.Bytes.{entries_of, is_record}
 use Rattle.record.specs.Marks.{Demand3}
 use Rattle.record.specs.Machine.{Verdict, judge_from, judge}
 use Rattle.marker.specs.declared.Marker.{Marker}
 use Rattle.marker.specs.declared.Findings.{Findings}
 use Rattle.marker.specs.declared.Marked.{Marked}
 use Rattle.marker.specs.declared.reading.Reading.{Reading}
+use Rattle.marker.specs.declared.reading.Stop.{Stop}
+use Rattle.marker.specs.declared.reading.Stop.TheVariants.{Fills, Heavy, End}
+use Rattle.cursor.specs.Cursors.{taken_by, taken_at}
 use Rattle.marker.specs.Faults.{fault_or_0}
 use Rattle.marker.specs.Steps.{state, fills_block}
 
@@ -43,13 +46,18 @@ pub record Leads (bytes before table : List ℕ) (m : Marker) (count i : ℕ) : 
   pub leads : judge_from (drop i (entries_of bytes)) (state i (take count table) m) ≡ judge (entries_of bytes)
   pub rest : drop count table ≡ drop count before
 
--- from one reading to a later one: so far the entries lead to the verdict on the whole, and where an entry is next it is known
--- whether it fills the block
-pub record Passes (bytes before : List ℕ) (from : Reading) (r : Reading × Bool) (after : List ℕ) : Type 0 where
+-- where the entries stop: the cursor takes one, and it is known whether it fills the block; or there is none
+abbrev pub StopsAt : List ℕ → Reading → Stop → Type 0
+StopsAt bytes r (Fills t) = (taken_by r.place (Ok t) ≡ taken_at bytes r.place) × (fills_block r.marker t.entry ≡ true)
+StopsAt bytes r (Heavy t) = (taken_by r.place (Ok t) ≡ taken_at bytes r.place) × (fills_block r.marker t.entry ≡ false)
+StopsAt bytes r End = length bytes / 12 ≤ r.place
+
+-- from one reading to a later one: so far the entries lead to the verdict on the whole
+pub record Passes (bytes before : List ℕ) (from : Reading) (r : Reading × Stop) (after : List ℕ) : Type 0 where
   pub leads : Leads bytes before after r.0.marker r.0.count r.0.place
   pub more : from.count ≤ r.0.count
   pub onward : from.place ≤ r.0.place
-  pub fills : r.0.place < length bytes / 12 → r.1 ≡ fills_block r.0.marker (get_or (entries_of bytes) r.0.place no_entry)
+  pub stop : StopsAt bytes r.0 r.1
 
 -- the entries one after the other; `before` and `after` are what the table holds
 pub record Runs (bytes before : List ℕ) (r : Marked) (after : List ℕ) : Type 0 where

@@ -1,11 +1,11 @@
 // The entries one after the other, to the first fault or the end.
-ghost use Rattle.std.specs.Prelude.{◌≡◌, cond, ◌/◌, ◌+◌, ◌<◌, ◌^◌, length, get_or, set};
-ghost use Rattle.record.specs.Bytes.{entries_of, no_entry};
-ghost use Rattle.marker.specs.Steps.{new_marker, fills_block};
+ghost use Rattle.std.specs.Prelude.{◌≡◌, cond, ◌+◌, ◌<◌, ◌^◌, length, set};
+ghost use Rattle.marker.specs.Steps.{new_marker};
 ghost use Rattle.marker.specs.Marks.{marked_by, Roomy, Leads, Passes, Runs};
 
 use super::light::Weighed;
 use super::{Fault, Findings, Marker, Stepped};
+use cursor::Taken;
 
 // What is known before the entry at `place`: the marker, and how many turn starts stand at the front of the table.
 #[derive(Clone, Copy)]
@@ -13,6 +13,14 @@ struct Reading {
     marker: Marker,
     place: usize,
     count: usize,
+}
+
+// Where the light entries end: at an entry that fills the block, at another one, or with the record.
+#[derive(Clone, Copy)]
+enum Stop {
+    Fills(Taken),
+    Heavy(Taken),
+    End,
 }
 
 impl Reading {
@@ -51,20 +59,20 @@ impl Reading {
         }
     }
 
-    // To the first entry that is not light, and whether it fills the block, or to the end.
-    // In one loop with `run` the marker takes a third longer: this one carries no settings.
-    fn pass(mut self, bytes: &[u8], table: &mut [u32]) -> (Reading, bool)
+    // To the first entry that is not light, or to the end.
+    // A speed bar: in one loop with `run` the marker takes a third longer. This one carries no settings.
+    fn pass(mut self, bytes: &[u8], table: &mut [u32]) -> (Reading, Stop)
         requires { Roomy bytes.now table.old × Leads bytes.now table.old table.old self.marker self.count self.place }
         ensures { Passes bytes.now table.old self result table.new }
     {
         while let Ok(taken) = cursor::take(bytes, self.place) {
             match self.marker.light(taken.entry) {
                 Weighed::Light(stepped) => self = self.on(stepped, taken.place, table),
-                Weighed::Fills => return (self, true),
-                Weighed::Heavy => return (self, false),
+                Weighed::Fills => return (self, Stop::Fills(taken)),
+                Weighed::Heavy => return (self, Stop::Heavy(taken)),
             }
         }
-        (self, false)
+        (self, Stop::End)
     }
 }
 
@@ -74,13 +82,16 @@ pub(super) fn run(bytes: &[u8], table: &mut [u32]) -> Findings
 {
     let mut reading = Reading::start();
     loop {
-        let (passed, fills) = reading.pass(bytes, table);
-        let Ok(taken) = cursor::take(bytes, passed.place) else {
-            return passed.found(passed.marker.ends().err());
-        };
-        match passed.marker.go(taken.entry, fills) {
-            Ok(stepped) => reading = passed.on(stepped, taken.place, table),
-            Err(fault) => return passed.found(Some(fault)),
+        let (passed, stop) = reading.pass(bytes, table);
+        match stop {
+            Stop::Fills(taken) => {
+                reading = passed.on(passed.marker.fill(taken.entry), taken.place, table);
+            }
+            Stop::Heavy(taken) => match passed.marker.other(taken.entry) {
+                Ok(stepped) => reading = passed.on(stepped, taken.place, table),
+                Err(fault) => return passed.found(Some(fault)),
+            },
+            Stop::End => return passed.found(passed.marker.ends().err()),
         }
     }
 }

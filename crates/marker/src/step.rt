@@ -120,7 +120,7 @@ impl Marker {
     }
 
     // An entry that fills the block, where no reply is awaited: it breaks no rule.
-    fn fill(self, e: Entry) -> Stepped
+    pub(super) fn fill(self, e: Entry) -> Stepped
         requires { fills_block self e ≡ true }
         ensures { Steps self e (stepped result) }
     {
@@ -132,7 +132,7 @@ impl Marker {
     }
 
     // Any other entry.
-    fn other(self, e: Entry) -> Result<Stepped, Fault>
+    pub(super) fn other(self, e: Entry) -> Result<Stepped, Fault>
         requires { fills_block self e ≡ false }
         ensures { Steps self e (stepped_by self result) }
     {
@@ -148,17 +148,6 @@ impl Marker {
             begins: now.begins(e),
             marker: now.act(e),
         })
-    }
-
-    // The entry, where it is known whether it fills the block.
-    pub(super) fn go(self, e: Entry, fills: bool) -> Result<Stepped, Fault>
-        requires { fills ≡ fills_block self e }
-        ensures { Steps self e (stepped_by self result) }
-    {
-        if fills {
-            return Ok(self.fill(e));
-        }
-        self.other(e)
     }
 
     // The marker after this entry, or the entry's fault.

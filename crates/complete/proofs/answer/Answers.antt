@@ -1,35 +1,38 @@
 -- `complete::answer` meets its contract.
-use mathlib.Core.Path.{◌≡◌, sym, ap, ◌∙◌}
-use native.Mathlib.Omega.{arith}
-use lib.ListN.{length, take}
-use Rattle.record.specs.declared.Written.{Written}
-use Rattle.report.specs.Text.{refused_line}
+use Rattle.std.proofs.Common.{◌≡◌, sym, ap, ◌∙◌, length, take, arith}
+use Rattle.std.proofs.lemmas.Grind.{common_steps}
+use Rattle.refusal.proofs.Numbers.{refuses}
+use Rattle.record.specs.Bytes.{Written}
+use Rattle.report.specs.Text.{refused, refused_line}
 use Rattle.report.proofs.Room.{counts}
 use Rattle.text.proofs.Lengths.{line-few}
-use Rattle.text.proofs.Writing.{within}
+use Rattle.text.proofs.Writing.{adds}
 use Rattle.complete.specs.Printed.{printed}
 use Rattle.complete.proofs.Prints.{prints}
 use Rattle.complete.proofs.answer.Goals as goal
 
-pub returns-then-written-ne0 : goal.returns-then-written-ne0
-returns-then-written-ne0 c =
-    let w = c.complete-written in
+pub returns-in-Ok : goal.returns-in-Ok
+returns-in-Ok c =
     let a = c.args in
-    let l = c.line in
-    let no = ap (λ (r : Written). r.no) w.ensures.answer in
-    let s = (prints a.bytes.now a.out.now (omega (arith, c.requires))).1 (λ z. c.if-written-ne0.true (no ∙ z)) in
-    let p = (within l.ensures (line-few _ _) (omega (arith, c.requires, w.auto.out))).0 in
-    let is : refused_line w.result.no ≡ printed a.bytes.now = rw no (sym s) in
-    let e : take l.result.end l.new.out ≡ printed a.bytes.now = p.front ∙ is in
-    let n : l.result.end ≡ length (printed a.bytes.now) = rw (← is) (omega (arith, p.ends)) in
-    record { prefix_len = counts _ _ _ n e; out_after = e }
+    let answer = c.in-Ok.ensures.answer in
+    let s = (prints a.bytes.now a.out.now (omega (arith, c.requires))).0 (sym (ap (λ (r : Written). r.no) answer)) in
+    let len = ap (λ (r : Written). r.len) answer in
+    let e : take c.in-Ok.len c.complete.new.out ≡ printed a.bytes.now = rw (len, c.in-Ok.ensures.output) s.1 in
+    record { prefix_len = counts _ _ _ (len ∙ s.0) e; out_after = e }
 
-pub returns : goal.returns
-returns c =
-    let w = c.complete-written in
+pub unwrap-requires : goal.unwrap-requires
+unwrap-requires c = ((adds c.line.ensures).fits (omega (arith, line-few refused c.from.result, c.requires, c.complete.auto.out))).0
+
+pub returns-in-Err : goal.returns-in-Err
+returns-in-Err c =
     let a = c.args in
-    let no = ap (λ (r : Written). r.no) w.ensures.answer in
-    let s = (prints a.bytes.now a.out.now (omega (arith, c.requires))).0 (sym no ∙ c.if-written-ne0.false) in
-    let n : w.result.len ≡ length (printed a.bytes.now) = ap (λ (r : Written). r.len) w.ensures.answer ∙ s.0 in
-    let e : take w.result.len w.new.out ≡ printed a.bytes.now = rw (w.ensures.answer, w.ensures.output) s.1 in
-    record { prefix_len = counts _ _ _ n e; out_after = e }
+    let page = c.line.new.self in
+    let no = ap (λ (r : Written). r.no) c.in-Err.ensures.answer in
+    let s = (prints a.bytes.now a.out.now (omega (arith, c.requires))).1 (λ z. refuses _ (no ∙ z)) in
+    let p = ((adds c.line.ensures).fits (omega (arith, line-few refused c.from.result, c.requires, c.complete.auto.out))).1 in
+    let is : refused_line c.from.result ≡ printed a.bytes.now = rw (c.from.ensures, c.number.ensures, no) (sym s) in
+    let e : take page.end page.out.now ≡ printed a.bytes.now = p.front ∙ is in
+    let n : page.end ≡ length (printed a.bytes.now) = rw (← is) (omega (arith, p.ends)) in
+    let same = sym c.line.ensures.same in
+    let k = counts _ _ _ n e in
+    record { prefix_len = grind (arith, common_steps); out_after = grind (arith, common_steps) }

@@ -1,68 +1,46 @@
--- `execute::execute` meets its contract.
-use Rattle.std.proofs.Common.{◌≡◌, ℕ, ◌+◌, ◌%◌, ◌<◌, true, false, ltb, length, Ok, ◌⊎◌, sym, ap, ◌∙◌, inl, inr, arith, rules, le-ltb, lt-ltb}
-use lib.Bits.{bit_and, and_mask}
-use Rattle.execute.specs.Execute.{executed, executed_out}
-use Rattle.execute.specs.Replies.{refused}
-use Rattle.execute.proofs.Carried.{as-answer, as-output, carry-kind}
-use Rattle.execute.proofs.Handed.{refusal, short-bad, short-read}
+-- `execute::execute` meets its contract: the reply, which is no longer than 18 bytes, stands at the front of the output.
+use Rattle.std.proofs.Common.{◌≡◌, ℕ, ◌≤◌, true, false, ltb, Ok, List, ◌++◌, length, take, drop, sym, ap, ◌∙◌, append_assoc, arith, le-ltb, lt-ltb, length-take}
+use Rattle.std.proofs.lemmas.List.{drop-append-le, take-append-drop}
+use Rattle.execute.specs.Replies.{Outcome}
+use Rattle.execute.specs.Execute.{execute, block_in, shown_out, executed, executed_out}
+use Rattle.execute.proofs.Replies.{reply-short}
 use Rattle.execute.proofs.execute.Goals as goal
-use Rattle.execute.proofs.execute.Goals.{then-block-gt-LISTED-via-then-block-gt-LISTED, then-block-gt-LISTED-via-else-block-gt-LISTED+then-block-from}
 
-pub returns-then-out-lt18 : goal.returns-then-out-lt18
-unfolding executed executed_out
-returns-then-out-lt18 c =
-    let e : ltb (length c.args.out.now) 18 ≡ true = lt-ltb _ 18 (omega arith) in
-    record { answer = rw e; output = rw e }
+-- what a reply leaves of an output, by its first eighteen bytes and the rest
+whole : (o : Outcome) (out : List ℕ) → length o.bytes ≤ 18 → 18 ≤ length out
+    → shown_out o (take 18 out) ++ drop 18 out ≡ shown_out o out
+whole o out h k =
+    let n = length o.bytes in
+    let long : n ≤ length (take 18 out) = simp length-take (omega arith) in
+    append_assoc o.bytes (drop n (take 18 out)) (drop 18 out)
+    ∙ ap (λ (l : List ℕ). o.bytes ++ l) (sym (drop-append-le n (take 18 out) (drop 18 out) long) ∙ ap (drop n) (take-append-drop 18 out))
 
--- the length by the first byte, as the code takes it
-low-four : (first n : ℕ) → n ≡ bit_and first 15 → n + 1 ≡ first % 16 + 1
-low-four first n e = omega (arith, and_mask first 4, e)
+pub returns-in-Some-clause-answer : goal.returns-in-Some-clause-answer
+unfolding executed
+returns-in-Some-clause-answer c =
+    let room : ltb (length c.args.out.now) 18 ≡ false = le-ltb _ 18 c.in-Some.ensures.cases.enough in
+    rw room (ap Ok c.run.ensures.answer)
 
-pub returns-then-block-gt-LISTED : goal.returns-then-block-gt-LISTED
-unfolding executed executed_out
-returns-then-block-gt-LISTED c =
+pub returns-in-Some-clause-output : goal.returns-in-Some-clause-output
+unfolding executed_out
+returns-in-Some-clause-output c =
     let b = c.args.block in
-    let tested : (5 < b.count) ⊎ (b.count ≡ b.first % 16 + 1 → ⊥) = elim c.then-block-gt-LISTED.branch [
-      | then-block-gt-LISTED-via-then-block-gt-LISTED w ↦ inl w.if-block-gt-LISTED.true
-      | then-block-gt-LISTED-via-else-block-gt-LISTED+then-block-from w ↦
-          inr (λ e. w.if-block-from.true (e ∙ sym (low-four b.first _ w.from.ensures)))
-    ] in
-    let s = c.args.settings in
-    let same = refusal s b.first b.count b.tail b.last tested ∙ ap (refused s) (sym c.fault.ensures) in
-    let room : ltb (length c.args.out.now) 18 ≡ false = le-ltb _ 18 (omega arith) in
+    let out = c.args.out.now in
+    let front = c.in-Some.ensures.cases in
+    let room : ltb (length out) 18 ≡ false = le-ltb _ 18 front.enough in
+    let o = execute c.args.settings (block_in b.first b.count b.tail b.last) in
+    let short : length o.bytes ≤ 18 = reply-short c.args.settings (block_in b.first b.count b.tail b.last) in
     rw room
-    (record { answer = ap Ok (as-answer same c.refuse.ensures.answer); output = as-output c.args.out.now same c.refuse.ensures.output })
+    (ap (λ (l : List ℕ). l ++ drop 18 out) (c.run.ensures.output ∙ ap (shown_out o) front.same) ∙ whole o out short front.enough)
 
-pub short-short-requires : goal.short-short-requires
-short-short-requires c =
-    (omega (arith, c.if-block-from.false ∙ low-four c.args.block.first _ c.from.ensures), c.if-block-gt-LISTED.false)
-
-pub returns-then-sum-block : goal.returns-then-sum-block
-unfolding executed executed_out
-returns-then-sum-block c =
-    let b = c.args.block in
-    let s = c.args.settings in
-    let short = c.short-short in
-    let sized = c.if-block-from.false ∙ low-four b.first _ c.from.ensures in
-    let same =
-    short-bad s b.first b.count b.tail b.last short.result.command short.result.«data» (search rules) c.if-block-gt-LISTED.false sized
-    short.ensures.bytes short.ensures.sum (λ e. c.if-sum-block.true (c.sum.ensures ∙ e)) in
-    let refuse = c.refuse-then-sum-block.ensures in
-    let room : ltb (length c.args.out.now) 18 ≡ false = le-ltb _ 18 (omega arith) in
+pub returns-in-None-clause-answer : goal.returns-in-None-clause-answer
+unfolding executed
+returns-in-None-clause-answer c =
+    let room : ltb (length c.args.out.now) 18 ≡ true = lt-ltb _ 18 c.in-None.ensures.cases in
     rw room
-    (record { answer = ap Ok (as-answer same refuse.answer); output = as-output c.args.out.now same refuse.output })
 
-pub returns : goal.returns
-unfolding executed executed_out
-returns c =
-    let b = c.args.block in
-    let s = c.args.settings in
-    let short = c.short-short in
-    let sized = c.if-block-from.false ∙ low-four b.first _ c.from.ensures in
-    let read =
-    short-read s b.first b.count b.tail b.last short.result.command short.result.«data» (search rules) c.if-block-gt-LISTED.false sized
-    short.ensures.bytes short.ensures.sum (sym c.sum.ensures ∙ c.if-sum-block.false) in
-    let same = read ∙ carry-kind s short.result.«data» _ _ (sym c.find-kind.ensures) in
-    let room : ltb (length c.args.out.now) 18 ≡ false = le-ltb _ 18 (omega arith) in
+pub returns-in-None-clause-output : goal.returns-in-None-clause-output
+unfolding executed_out
+returns-in-None-clause-output c =
+    let room : ltb (length c.args.out.now) 18 ≡ true = lt-ltb _ 18 c.in-None.ensures.cases in
     rw room
-    (record { answer = ap Ok (as-answer same c.carry.ensures.answer); output = as-output c.args.out.now same c.carry.ensures.output })
