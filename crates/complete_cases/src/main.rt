@@ -11,6 +11,19 @@ use std::io::Read;
 // No input is so long: the bound is there for the loop to end.
 const MOST: u32 = 1000000;
 
+// The first `size` bytes, or all of them where there are fewer.
+fn first(space: &mut [u8], size: usize) -> &mut [u8] {
+    let size = size.min(space.len());
+    &mut space[..size]
+}
+
+// Reads as many bytes as `space` has, and has them completed. In `next` itself the check unfolds the long arrays, and gives up.
+fn read_and_complete(rt: &impl Print, input: &mut impl Read, space: &mut [u8], out: &mut [u8]) {
+    let count = streams::read_full(input, space).unwrap_or_else(|cut| cut.count);
+    let written = completion::complete(&space[..count], out);
+    let _ = show::written(rt, written, out);
+}
+
 // Takes one case, or none where the input has no more.
 fn next(rt: &impl Print, input: &mut impl Read) -> Option<()> {
     let size = u32::from_le_bytes(streams::read_array(input)?) as usize;
@@ -18,11 +31,7 @@ fn next(rt: &impl Print, input: &mut impl Read) -> Option<()> {
     // Room for a record and an output that are larger than the largest.
     let mut space = [0; 65552];
     let mut out = [show::BLANK; 458768];
-    let bytes = &mut space[..size.min(65552)];
-    let out = &mut out[..room.min(458768)];
-    let count = streams::read_full(input, bytes).unwrap_or_else(|cut| cut.count);
-    let written = completion::complete(&bytes[..count], out);
-    let _ = show::written(rt, written, out);
+    read_and_complete(rt, input, first(&mut space, size), first(&mut out, room));
     Some(())
 }
 
