@@ -25,6 +25,7 @@ fn blank() -> [u8; ROOM] {
 }
 
 // Of a record that is longer than the buffer 65,536 bytes are read: too many, so it is refused all the same.
+// One function for the three programs is no plainer: room, what fills it and the use are nearly all there is.
 fn run(rt: &HostRuntime) -> Result<(), Failure> {
     let mut buf = [0; 65536];
     let count = program::read(rt, &mut rt.stdin(), &mut buf, "answer < RECORD")?;

@@ -27,6 +27,7 @@ fn answer(bytes: &[u8], out: &mut [u8]) -> usize
 
 // Of more than the buffer holds 65,536 bytes are read: too many, so they are refused all the same. The output has room for the
 // longest completed record, 7 times as many, or a refusal.
+// One function for the three programs is no plainer: room, what fills it and the use are nearly all there is.
 fn run(rt: &HostRuntime) -> Result<(), Failure> {
     let mut buf = [0; 65536];
     let count = program::read(rt, &mut rt.stdin(), &mut buf, "complete < EXERCISE")?;

@@ -28,6 +28,7 @@ fn next(rt: &impl Print, input: &mut impl Read, deck: Deck) -> Option<Deck> {
     let args = &mut space[..usize::from(size)];
     let count = streams::read_full(input, args).unwrap_or_else(|cut| cut.count);
     let args = &args[..count];
+    // A table of functions is no plainer: the calls take other arguments each.
     Some(match letter {
         b'b' => events::bytes(rt, deck, room, time, args),
         b'e' => end(rt, deck),

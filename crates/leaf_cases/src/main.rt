@@ -18,6 +18,7 @@ use std::io::Read;
 const MOST: u32 = 1000000;
 
 fn call(rt: &impl Print, letter: u8, args: &[u8]) -> io::Result<()> {
+    // A table of functions is no plainer: it would have these lines too, and a search.
     match letter {
         b'l' => line_cases::receive(rt, args),
         b's' => block_cases::sum(rt, args),
