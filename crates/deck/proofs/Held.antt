@@ -59,11 +59,17 @@ one_more (suc n) first b t h k =
     let e : suc n + 1 ≡ suc (suc n) = omega arith in
     rw (e, ne_eqb (suc n) 0 (λ z. omega arith), latest-more n t b h (omega arith))
 
--- with more bytes than the first asks for it fills the block
-pub ends-inside : (n first b : ℕ) (t : Tail) → (n ≡ 0 → ⊥)
+-- with more bytes than the first asks for it fills the block; the first byte never does
+pub ends-inside : (n first b : ℕ) (t : Tail)
     → ltb (first % 16 + 1) n ≡ leb (size (open_block n first t ++ b ∷ [])) (length (open_block n first t) + 1)
-ends-inside n first b t h = rw (length-open n first t, sized n first b t h) (go (dec_lt (first % 16 + 1) n))
+ends-inside zero first b t =
+    le-ltb (first % 16 + 1) zero (omega arith) ∙ sym (lt-leb (b % 16 + 3) 1 (omega arith))
+ends-inside (suc k) first b t =
+    rw (length-open (suc k) first t, sized (suc k) first b t (λ z. omega arith)) (go (dec_lt (first % 16 + 1) n))
   where
+    n : ℕ
+    n = suc k
+
     x : ℕ
     x = first % 16
 

@@ -41,7 +41,7 @@ impl Deck {
     pub(super) fn ends(self) -> bool
         ensures { (content : ℕ) → result ≡ leb (size ((view self).block ++ content ∷ [])) (length (view self).block + 1) }
     {
-        self.held != 0 && (self.first % 16) as usize + 1 < self.held
+        (self.first % 16) as usize + 1 < self.held
     }
 
     // No block is open after a reply, which may open a quiet.

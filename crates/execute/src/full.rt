@@ -47,10 +47,15 @@ impl FullBlock {
         ensures sum { checksum (latest self.count self.tail) ≡ checksum (result.command ∷ result.«data») }
     {
         let moved = self.tail.low << ((8 - self.count) * 8);
-        let [command, a, b, c, d, ..] = moved.to_be_bytes();
+        // A speed bar: with `to_be_bytes` the deck takes more instructions.
         Short {
-            command,
-            data: [a, b, c, d],
+            command: ((moved >> 56) % 256) as u8,
+            data: [
+                ((moved >> 48) % 256) as u8,
+                ((moved >> 40) % 256) as u8,
+                ((moved >> 32) % 256) as u8,
+                ((moved >> 24) % 256) as u8,
+            ],
         }
     }
 
