@@ -70,7 +70,7 @@ impl Marker {
     pub(super) fn light(self, e: Entry) -> Weighed
         ensures { Weighs self e result }
     {
-        // A speed bar: with kind and flags tested one after the other the marker takes a tenth more instructions.
+        // A speed bar: with kind and flags tested one after the other the marker takes a twentieth more instructions.
         match u16::from_le_bytes([e.kind, e.flags]) {
             CONTROLLER => self.block_byte(e),
             DECK => self.reply_byte(e),

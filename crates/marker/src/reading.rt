@@ -60,7 +60,7 @@ impl Reading {
     }
 
     // To the first entry that is not light, or to the end.
-    // A speed bar: in one loop with `run` the marker takes a third longer. This one carries no settings.
+    // A speed bar: in one loop with `run` the marker takes a quarter longer. This one carries no settings.
     fn pass(mut self, bytes: &[u8], table: &mut [u32]) -> (Reading, Stop)
         requires { Roomy bytes.now table.old × Leads bytes.now table.old table.old self.marker self.count self.place }
         ensures { Passes bytes.now table.old self result table.new }

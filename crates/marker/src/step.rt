@@ -29,6 +29,7 @@ impl Marker {
     }
 
     // The deck is told the time: it may find a time-out.
+    // With `moved` and `loaded` as one function over a closure, each would still be the closure that names the deck's method.
     fn look(self, time: u64) -> Marker
         requires { (self.deck.clock ≤ time) × (time < 2 ^ 48) }
         ensures { Acts self time (looked (view self.deck) time) result }

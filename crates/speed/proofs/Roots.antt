@@ -17,12 +17,6 @@ use Rattle.speed.proofs.Rule.{all, below, small}
 abbrev tens : ℕ → ℕ
 tens n = 10 ^ (n / 32 + 1)
 
-power_small : (j : ℕ) → j < 8 → 10 ^ (j + 1) ≤ 10 ^ 8
-power_small j h = let most : j + 1 ≤ 8 = omega arith in pow-le-pow_right (omega arith) most
-
-pub power_fits : (j : ℕ) → j < 8 → 10 ^ (j + 1) < 2 ^ 64
-power_fits j h = omega (arith, power_small j h)
-
 abbrev product : List ℕ → ℕ → ℕ → ℕ
 product roots n ten = get_or roots (n % 32) 0 * ten
 
@@ -36,14 +30,19 @@ module _ (roots : List ℕ) (pass : T (all (narrow roots) 32)) (n : ℕ) where
   unfolding narrow
   root-small = ltb→lt (get_or roots (n % 32) 0) (2 ^ 32) (below (narrow roots) 32 pass (n % 32) (omega arith))
 
+  pub root-fits : Fits w64 (get_or roots (n % 32) 0)
+  root-fits = record { fits = omega (arith, root-small) }
+
   module _ (ten : ℕ) (byte : n < 256) (is : ten ≡ tens n) where
     product_small : product roots n ten ≤ 2 ^ 32 * 10 ^ 8
-    product_small = rw is (mul-le-mul (le_of_lt root-small) (power_small (n / 32) (omega arith)))
+    product_small =
+        let power : n / 32 + 1 ≤ 8 = omega arith in
+        rw is (mul-le-mul (le_of_lt root-small) (pow-le-pow_right (omega arith) power))
 
-    product-fits : Fits w64 (product roots n ten)
+    pub product-fits : Fits w64 (product roots n ten)
     product-fits = record { fits = omega (arith, product_small) }
 
-    quotient_fits : SFits w32 (pos (product roots n ten / 268435456))
+    pub quotient_fits : SFits w32 (pos (product roots n ten / 268435456))
     quotient_fits = record { sfits = omega (arith, product_small) }
 
 -- ---- it is the speed
@@ -59,25 +58,6 @@ module _ (roots : List ℕ) (pass : T (all (right roots) 255)) where
       eqb→eq (product roots (suc n) (tens (suc n)) / 268435456) (speed_of (suc n)) (below (right roots) 255 pass n (omega arith))
 
   -- as the code reads it from its bits
-  quotient-bits : (n ten : ℕ) → (n ≡ 0 → ⊥) → n < 256 → ten ≡ tens n
+  pub quotient-bits : (n ten : ℕ) → (n ≡ 0 → ⊥) → n < 256 → ten ≡ tens n
       → to_z w32 (product roots n ten / 268435456) ≡ pos (speed_of n)
   quotient-bits n ten some byte is = rw (is, at n some byte) (to_z_pos w32 (speed_of n) (small n byte))
-
--- ---- the same of a root and a power that the code looked up
-
-module _ (roots : List ℕ) (n i j root ten : ℕ) (byte : n < 256)
-    (read : root ≡ get_or roots i 0) (place : i ≡ n % 32) (is : ten ≡ 10 ^ (j + 1)) (power : j ≡ n / 32) where
-  made : root * ten ≡ product roots n ten
-  made = cc
-
-  ten-is : ten ≡ tens n
-  ten-is = cc
-
-  pub made-fits : T (all (narrow roots) 32) → Fits w64 (root * ten)
-  made-fits pass = rw made (product-fits roots pass n ten byte ten-is)
-
-  pub made-quotient-fits : T (all (narrow roots) 32) → SFits w32 (pos (root * ten / 268435456))
-  made-quotient-fits pass = rw made (quotient_fits roots pass n ten byte ten-is)
-
-  pub made-bits : T (all (right roots) 255) → (n ≡ 0 → ⊥) → to_z w32 (root * ten / 268435456) ≡ pos (speed_of n)
-  made-bits pass some = rw made (quotient-bits roots pass n ten some byte ten-is)

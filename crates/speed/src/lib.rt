@@ -12,6 +12,23 @@ const ROOTS: [u32; 32] = [
     1509523501, 1622145771, 1743170543, 1873224712, 2012981940, 2163166151, 2324555280, 2497985301,
 ];
 
+// A speed bar: with std's `pow` the deck takes a thirtieth more instructions.
+fn tens(j: u8) -> u64
+    requires { j < 8 }
+    ensures { result ≡ 10 ^ (j + 1) }
+{
+    match j {
+        0 => 10,
+        1 => 100,
+        2 => 1000,
+        3 => 10000,
+        4 => 100000,
+        5 => 1000000,
+        6 => 10000000,
+        _ => 100000000,
+    }
+}
+
 // In thousandths of the play speed: the 32nd root of 10^(n + 32), cut off; 0 for 0.
 fn forward(n: u8) -> i32
     ensures { result ≡ pos (speed_of n) }
@@ -19,8 +36,8 @@ fn forward(n: u8) -> i32
     if n == 0 {
         return 0;
     }
-    let root = u64::from(ROOTS[usize::from(n % 32)]);
-    (root * 10u64.pow(u32::from(n / 32) + 1) / 268435456) as i32
+    let root = ROOTS[(n % 32) as usize] as u64;
+    (root * tens(n / 32) / 268435456) as i32
 }
 
 #[tactic(auto, using(crate::proofs::Rule::rule, crate::proofs::Rule::small))]

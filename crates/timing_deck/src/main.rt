@@ -13,7 +13,9 @@ fn play(block: &[u8]) -> u64 {
         for byte in block {
             if let Ok(answer) = deck.byte(u64::from(round), *byte, 0, &mut out) {
                 deck = answer.deck;
-                replies = replies.wrapping_add(u64::from(answer.first.is_some()));
+                if answer.first.is_some() {
+                    replies = replies.wrapping_add(1);
+                }
             }
         }
     }

@@ -1,12 +1,12 @@
 -- `run` meets its contract.
-use mathlib.Core.Path.{refl, sym, ap, ◌∙◌, subst}
+use mathlib.Core.Path.{refl, ap, ◌∙◌, subst}
 use native.Mathlib.Omega.{arith}
 use Rattle.record.specs.declared.Entry.{Entry}
 use Rattle.record.proofs.Bytes.{length-entries}
 use Rattle.std.specs.Prelude.{Err}
 use Rattle.marker.specs.Faults.{fault_or_0}
-use Rattle.marker.specs.Steps.{stepped, stepped_by, Steps, fills_block}
-use Rattle.marker.proofs.Entries.{here, past}
+use Rattle.marker.specs.Steps.{stepped, stepped_by, Steps}
+use Rattle.marker.proofs.Entries.{here}
 use Rattle.marker.proofs.Judged.{begins-so, across, ended, faulty, on, err-number, has-room}
 use Rattle.marker.proofs.reading.run.Goals as goal
 
