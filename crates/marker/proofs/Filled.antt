@@ -21,7 +21,7 @@ use Rattle.deck.proofs.Found.{byte-in-time}
 use Rattle.deck.proofs.Replies.{late-looked}
 use Rattle.deck.proofs.Numbers.{unrefused}
 use Rattle.deck.proofs.Joining.{allowed, joins-taken, joins-grows, joining-is, joining-fills, joins-deck, joins-answers, joining-made}
-use Rattle.deck.proofs.Filling.{grows-fills, fills-looked, fills-open, filling-is, striking-dropped, striking-heard}
+use Rattle.deck.proofs.Filling.{fills-looked, fills-open, filling-is, striking-dropped, striking-heard}
 use Rattle.record.specs.declared.Entry.{Entry}
 use Rattle.record.specs.Entries.{formed, is_controller}
 use Rattle.record.specs.Machine.{Waiting, some, await}
@@ -130,11 +130,6 @@ module _ (m : Marker) (e : Entry) where
       → (j : Tried) → j ≡ joining m.deck e.time e.content → fills_block m e ≡ j.fills
   joined-fills k c h s j p =
       deck-fills k c h s ∙ sym (joining-fills m.deck e.time e.content) ∙ sym (ap (λ (z : Tried). z.fills) p)
-
--- what joins the block does not fill it
-pub joins-unfilled : (d : Held) (t b : ℕ) → joins d t b ≡ true → filling 18 d t b ≡ false
-unfolding filling
-joins-unfilled d t b j = rw (grows-fills d t b (joins-grows d t b j), and-false)
 
 -- nothing fills a block that is not open, or in quiet
 fills-none : (x : Deck) (t b : ℕ) → x.block ≡ [] → fills x t b ≡ false

@@ -39,11 +39,7 @@ begins-so bytes before m p =
       rest = refl;
     }
 
--- from a table on, and from the one before it
-pub from-here : {bytes before table : List ℕ} {m : Marker} {count i : ℕ} → Leads bytes before table m count i
-    → Leads bytes table table m count i
-from-here v = record { within = v.within; few = v.few; size = refl; leads = v.leads; rest = refl }
-
+-- from one table on, and then from the next
 pub across : {bytes before table after : List ℕ} {m n : Marker} {count more i j : ℕ} → Leads bytes before table m count i
     → Leads bytes table after n more j → count ≤ more → Leads bytes before after n more j
 across {before = before} {table} {count = count} {more} v u h =
@@ -136,8 +132,3 @@ err-number (Err f) = refl
 pub has-room : {bytes before after : List ℕ} {m : Marker} {count place : ℕ} → Leads bytes before after m count place
     → place < length bytes / 12 → Roomy bytes before → (place < 2 ^ 32) × (count < length after)
 has-room v h r = (omega (arith, r.short), omega (arith, v.few, v.size, r.room))
-
--- also in the table as it is now
-pub still-room : {bytes before after : List ℕ} {m : Marker} {count place : ℕ} → Leads bytes before after m count place
-    → Roomy bytes before → Roomy bytes after
-still-room v r = record { short = r.short; room = omega (arith, v.size, r.room) }
