@@ -43,7 +43,7 @@ pub struct Answer {
     pub second: Option<Sent>,
 }
 
-// What comes of a byte that is to join the open block: the deck with it, or the deck as it was, whose block it fills or not.
+// What comes of a byte that is to join the open block: it is taken, and this is the deck; or it fills the block, or neither.
 #[derive(Clone, Copy)]
 pub enum Joined {
     Taken(Deck),

@@ -50,7 +50,7 @@ pub struct Findings {
     pub count: usize,
 }
 
-// The same in document 01's numbers: 0 for no refusal, and for no fault.
+// The same in document 01's numbers: 0 for no refusal, and for no fault. What may not change: `report::text` takes any of them.
 #[derive(Clone, Copy)]
 pub struct Marked {
     pub no: u8,

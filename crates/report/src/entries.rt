@@ -36,7 +36,7 @@ fn put_answer(page: &mut Page<'_>, answer: Answer, bytes: &[u8]) -> Result<(), R
     put_sent(page, answer.second, &bytes[len..])
 }
 
-// The entry with number k, which the deck is handed.
+// The entry with number k, which the deck is handed if it is meant for it.
 fn put_entry(page: &mut Page<'_>, deck: &mut Deck, k: usize, e: Entry) -> Result<(), Refusal>
     ensures lines { Adds page.old (entry_lines k (standing deck.old) e) page.new result }
     ensures after { standing deck.new ≡ stands (standing deck.old) e }

@@ -31,7 +31,7 @@ pub fn read_full<R: Read>(input: &mut R, space: &mut [u8]) -> Result<usize, Cut>
     Ok(count)
 }
 
-// An array of the next bytes, or none where the input has too few.
+// An array of the next bytes, or none where the input has too few or a read fails.
 pub fn read_array<R: Read, const N: usize>(input: &mut R) -> Option<[u8; N]>
     ensures whole { IfSome result (λ bytes. Consumes (R.remaining input.old) (R.remaining input.new) bytes) }
     ensures short { IfNone result ((bytes : List ℕ) × (length bytes ≤ N) × Consumes (R.remaining input.old) (R.remaining input.new) bytes) }
