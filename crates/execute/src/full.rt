@@ -40,22 +40,17 @@ fn total(tail: Tail, count: usize) -> u8
 }
 
 impl FullBlock {
-    // The latest bytes, moved up in one number so that the first of them is the highest, and taken apart.
+    // The latest bytes as one number, moved up so that the first of them is the highest.
     pub(super) fn short(self) -> Short
         requires { (1 ≤ self.count) × (self.count ≤ 5) }
         ensures bytes { latest self.count self.tail ≡ result.command ∷ take (self.count - 1) result.«data» }
         ensures sum { checksum (latest self.count self.tail) ≡ checksum (result.command ∷ result.«data») }
     {
         let moved = self.tail.low << ((8 - self.count) * 8);
-        // A speed bar: with `to_be_bytes` the deck takes more instructions.
+        let [command, a, b, c, d, ..] = moved.to_be_bytes();
         Short {
-            command: ((moved >> 56) % 256) as u8,
-            data: [
-                ((moved >> 48) % 256) as u8,
-                ((moved >> 40) % 256) as u8,
-                ((moved >> 32) % 256) as u8,
-                ((moved >> 24) % 256) as u8,
-            ],
+            command,
+            data: [a, b, c, d],
         }
     }
 

@@ -63,7 +63,7 @@ pub fn nak(why: u8, out: &mut [u8]) -> Result<usize, Refusal>
     block::write(0x1, 0x12, &[why], out)
 }
 
-// What `execute` does, with room for the longest reply.
+// The same, with room for the longest reply.
 fn run(settings: Settings, block: FullBlock, out: &mut [u8; 18]) -> Executed
     ensures answer { result ≡ shown (execute settings (block_in block.first block.count block.tail block.last)) }
     ensures output { out.new ≡ shown_out (execute settings (block_in block.first block.count block.tail block.last)) out.old }
