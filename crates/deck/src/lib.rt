@@ -16,7 +16,8 @@ mod line;
 // The latest time that a call takes.
 pub const LAST_TIME: u64 = 281474976710655;
 
-// The open block has `held` bytes: `first`, and the latest of `tail`. A byte at a time below `free` is in quiet.
+// The open block has `held` bytes: `first`, and the latest of `tail`. A byte at a time below `free` is in quiet. A speed bar: the block is
+// no array with its length, which would be copied at each call.
 #[derive(Clone, Copy)]
 pub struct Deck {
     pub clock: u64,

@@ -10,6 +10,7 @@ use super::{Answer, Deck, Sent};
 use execute::FullBlock;
 use packed::Tail;
 
+// A number: what may not change, `execute::nak` takes any byte, the flags of the line among them.
 const TIME_OUT: u8 = 0x80;
 
 impl Deck {

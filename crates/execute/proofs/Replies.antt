@@ -1,5 +1,6 @@
 -- Every reply is a block: 3 to 18 bytes, each a byte, and it reads.
-use Rattle.std.proofs.Common.{Option, Some, None, ◌≡◌, ℕ, ◌<◌, ◌≤◌, Bool, true, false, cond, eqb, List, [], ◌∷◌, length, get_or, take, sym, refl, ap, ◌∙◌, subst, arith, length-take}
+use Rattle.std.proofs.Common.{Option, Some, None, ◌≡◌, ℕ, ◌<◌, ◌≤◌, Bool, true, false, cond, eqb}
+use Rattle.std.proofs.Common.{List, [], ◌∷◌, length, get_or, take, sym, refl, ap, ◌∙◌, subst, arith, length-take}
 use Rattle.packed.proofs.Bytes.{Bytes, by_place, front, joined}
 use Rattle.block.specs.Block.{first_byte, checksum, body, block_of}
 use Rattle.block.specs.Read.{read_no, read_data}

@@ -40,7 +40,7 @@ fn total(tail: Tail, count: usize) -> u8
 }
 
 impl FullBlock {
-    // The latest bytes as one number, moved up so that the first of them is the highest.
+    // The latest bytes, moved up in one number so that the first of them is the highest, and taken apart.
     pub(super) fn short(self) -> Short
         requires { (1 ≤ self.count) × (self.count ≤ 5) }
         ensures bytes { latest self.count self.tail ≡ result.command ∷ take (self.count - 1) result.«data» }

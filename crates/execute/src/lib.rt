@@ -56,14 +56,14 @@ pub fn opens_quiet(_why: u8) -> bool
     true
 }
 
-// The NAK with this byte, at the front of the output.
+// The NAK with this byte, which may be any, at the front of the output.
 pub fn nak(why: u8, out: &mut [u8]) -> Result<usize, Refusal>
     ensures { (written_by result ≡ written 0x1 (why ∷ []) out.old) × (out.new ≡ written_out 0x1 0x12 (why ∷ []) out.old) }
 {
     block::write(0x1, 0x12, &[why], out)
 }
 
-// The same, with room for the longest reply.
+// What `execute` does, with room for the longest reply.
 fn run(settings: Settings, block: FullBlock, out: &mut [u8; 18]) -> Executed
     ensures answer { result ≡ shown (execute settings (block_in block.first block.count block.tail block.last)) }
     ensures output { out.new ≡ shown_out (execute settings (block_in block.first block.count block.tail block.last)) out.old }

@@ -19,7 +19,8 @@ mod reading;
 mod reply;
 mod step;
 
-// The bytes of a reply that are still to come are the first `left` of `reply`; none is to come later than `latest`.
+// The bytes of a reply that are still to come are the first `left` of `reply`; none is to come later than `latest`. A speed bar: they are
+// numbers with a count, since an array would be copied from place to place.
 #[derive(Clone, Copy)]
 pub struct Waits {
     pub reply: Packed,

@@ -7,7 +7,8 @@ use super::light::Weighed;
 use super::{Fault, Findings, Marker, Stepped};
 use cursor::Taken;
 
-// What is known before the entry at `place`: the marker, and how many turn starts stand at the front of the table.
+// What is known before the entry at `place`: the marker, and how many turn starts stand at the front of the table. Memory is fixed: the
+// table is lent, and no list that grows.
 #[derive(Clone, Copy)]
 struct Reading {
     marker: Marker,
@@ -60,7 +61,8 @@ impl Reading {
     }
 
     // To the first entry that is not light, or to the end.
-    // A speed bar: in one loop with `run` the marker takes a quarter longer. This one carries no settings.
+    // A speed bar: in one loop with `run` the marker takes a quarter longer. This one carries no settings, and a place and no cursor, which
+    // holds the bytes too.
     fn pass(mut self, bytes: &[u8], table: &mut [u32]) -> (Reading, Stop)
         requires { Roomy bytes.now table.old × Leads bytes.now table.old table.old self.marker self.count self.place }
         ensures { Passes bytes.now table.old self result table.new }

@@ -16,6 +16,7 @@ mod kind;
 
 const LONGEST: usize = 65532;
 
+// The kind is a byte, and `kind()` says which it is, if any. What may not change: `write` takes any, and any bytes are read as an entry.
 #[derive(Clone, Copy)]
 pub struct Entry {
     pub kind: u8,
@@ -57,7 +58,7 @@ pub fn is_record(size: usize) -> bool
     size % 12 == 0 && size <= LONGEST
 }
 
-// The entry at this number; refused where the bytes have no such whole entry.
+// The entry at this number; refused where the bytes have no such whole entry. Bytes and number are the form that the papers name.
 pub fn read(bytes: &[u8], place: usize) -> Result<Entry, Refusal>
     ensures { fetched_by result ≡ read_at bytes.now place }
 {

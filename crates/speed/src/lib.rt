@@ -40,6 +40,7 @@ fn forward(n: u8) -> i32
     (root * tens(n / 32) / 268435456) as i32
 }
 
+// The flag is no `Direction`: that stands with the commands, above this leaf.
 #[tactic(auto, using(crate::proofs::Rule::rule, crate::proofs::Rule::small))]
 pub fn speed(n: u8, reverse: bool) -> i32
     ensures { (result ≡ signed reverse (speed_of n)) × IsSpeed n (speed_of n) }

@@ -10,7 +10,8 @@ use refusal::Refusal;
 mod hex;
 mod numbers;
 
-// A lent output, and the place in it for the next text, any place.
+// A lent output, and the place in it for the next text, any place. What may not change: a text that is refused leaves place and output, so
+// that the rest of a slice would not do.
 #[derive(Drop)]
 pub struct Page<'a> {
     pub out: &'a mut [u8],

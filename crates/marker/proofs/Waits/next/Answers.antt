@@ -9,4 +9,7 @@ pub returns-then-not-any : goal.returns-then-not-any
 returns-then-not-any c = front-none (awaited c.args.self).left (sym c.any.ensures ∙ c.if-not-any.true)
 
 pub returns : goal.returns
-returns c = ap Some (c.first.ensures ∙ sym (next-left c.args.self (any-above c.args.self (sym c.any.ensures ∙ c.if-not-any.false)))) ∙ front-some (awaited c.args.self).left (sym c.any.ensures ∙ c.if-not-any.false)
+returns c =
+    let w = c.args.self in
+    let any = sym c.any.ensures ∙ c.if-not-any.false in
+    ap Some (c.first.ensures ∙ sym (next-left w (any-above w any))) ∙ front-some (awaited w).left any
