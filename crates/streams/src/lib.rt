@@ -1,7 +1,7 @@
 // Reading into a buffer that is lent.
 #![tactic(auto)]
 
-ghost use Rattle.std.specs.Prelude.{◌≡◌, ℕ, ◌<◌, ◌≤◌, List, IfOk, IfSome, IfNone, length, take};
+ghost use Rattle.std.specs.Prelude.{◌≡◌, ℕ, ◌<◌, ◌≤◌, List, IfOk, IfErr, IfSome, IfNone, length, take};
 ghost use Rattle.std.specs.Io.KnownBytes.{Consumes, IsAtEnd};
 ghost use Rattle.streams.specs.Came.{came};
 
@@ -18,6 +18,7 @@ pub fn read_full<R: Read>(input: &mut R, space: &mut [u8]) -> Result<usize, Cut>
     ensures in_bounds { came result ≤ length space.new }
     ensures bytes { Consumes (R.remaining input.old) (R.remaining input.new) (take (came result) space.new) }
     ensures all { IfOk result (λ count. count < length space.new → IsAtEnd (R.remaining input.new)) }
+    ensures failed { IfErr result (λ cut. cut.count < length space.new) }
 {
     let mut count = 0;
     // A `for` is no plainer: a read brings any number of bytes.
@@ -31,10 +32,21 @@ pub fn read_full<R: Read>(input: &mut R, space: &mut [u8]) -> Result<usize, Cut>
     Ok(count)
 }
 
-// An array of the next bytes, or none where the input has too few or a read fails.
+// The bytes that came before the buffer was full, the input ended or a read failed. A failure is not told, so no clause can say that
+// fewer than the buffer holds mean the end.
+pub fn read_front<'a, R: Read>(input: &mut R, space: &'a mut [u8]) -> &'a [u8]
+    ensures in_bounds { length result.now ≤ length space.old }
+    ensures bytes { Consumes (R.remaining input.old) (R.remaining input.new) result.now }
+{
+    let count = read_full(input, space).unwrap_or_else(|cut| cut.count);
+    &space[..count]
+}
+
+// An array of the next bytes, or none where the input has too few or a read fails. Where there is none, fewer bytes came than it has: what
+// came whole is handed out. A read may fail at any time, so whether one is tried at all stays free.
 pub fn read_array<R: Read, const N: usize>(input: &mut R) -> Option<[u8; N]>
     ensures whole { IfSome result (λ bytes. Consumes (R.remaining input.old) (R.remaining input.new) bytes) }
-    ensures short { IfNone result ((bytes : List ℕ) × (length bytes ≤ N) × Consumes (R.remaining input.old) (R.remaining input.new) bytes) }
+    ensures short { IfNone result ((bytes : List ℕ) × (length bytes < N) × Consumes (R.remaining input.old) (R.remaining input.new) bytes) }
 {
     let mut bytes = [0; N];
     (read_full(input, &mut bytes) == Ok(N)).then_some(bytes)
