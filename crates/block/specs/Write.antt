@@ -1,7 +1,6 @@
 -- Document 01, "Numbers that calls return": the writer, for any fields and any output.
-use Rattle.std.specs.Prelude.{ℕ, ◌+◌, Bool, cond, ◌||◌, List, ◌++◌, length, drop, ◌==◌, nat_lt, Result, Ok, Err}
-use Rattle.refusal.specs.declared.Refusal.{Refusal}
-use Rattle.refusal.specs.Numbers.{number_of}
+use Rattle.std.specs.Prelude.{ℕ, ◌+◌, Bool, cond, ◌||◌, List, ◌++◌, length, drop, ◌==◌, nat_lt}
+use Rattle.refusal.specs.Written.{Written}
 use Rattle.block.specs.Block.{block_of}
 
 -- 9 FIELD: "group over 15, over 15 data bytes"
@@ -15,16 +14,6 @@ room_short bytes out = nat_lt (length out) (length bytes + 3)
 -- "writer: 9, 1"
 unfoldable pub write_no : ℕ → List ℕ → List ℕ → ℕ
 write_no group bytes out = cond (field_wrong group bytes) 9 (cond (room_short bytes out) 1 0)
-
--- the length of a block that was written, or the number of a refusal and 0
-pub record Written : Type 0 where
-  pub no : ℕ
-  pub len : ℕ
-
--- an answer as number and length: a refusal has none
-abbrev pub written_by : Result ℕ Refusal → Written
-written_by (Ok n) = record { no = 0; len = n }
-written_by (Err e) = record { no = number_of e; len = 0 }
 
 -- the number and the block's length, 0 for a refusal
 unfoldable pub written : ℕ → List ℕ → List ℕ → Written

@@ -3,9 +3,10 @@
 
 ghost use Rattle.std.specs.Prelude.{◌≡◌};
 ghost use Rattle.refusal.specs.Numbers.{no_of};
+ghost use Rattle.refusal.specs.Written.{written_by};
 ghost use Rattle.block.specs.Block.{checksum};
 ghost use Rattle.block.specs.Read.{fields_by, read_no, read_fields, read_data};
-ghost use Rattle.block.specs.Write.{written_by, written, written_out};
+ghost use Rattle.block.specs.Write.{written, written_out};
 
 use refusal::Refusal;
 

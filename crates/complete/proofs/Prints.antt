@@ -8,7 +8,7 @@ use borrow.Author.Tests.{le-ltb}
 use lib.Dec.{eqb}
 use lib.ListN.{length, take, drop}
 use lib.Seq.{take-append_seam}
-use Rattle.record.specs.Bytes.{Written}
+use Rattle.refusal.specs.Written.{Written}
 use Rattle.completion.specs.Calls.{is_exercise, room_for, refusal, completion, written, written_out}
 use Rattle.report.specs.Text.{refused_line}
 use Rattle.complete.specs.Printed.{printed}

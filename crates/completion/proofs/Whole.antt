@@ -10,9 +10,10 @@ use lib.Dec.{ltb}
 use lib.ListN.{length}
 use Rattle.refusal.specs.declared.Refusal.{Refusal}
 use Rattle.refusal.specs.Numbers.{number_of}
+use Rattle.refusal.specs.Written.{written_by}
 use Rattle.refusal.proofs.Numbers.{refuses}
 use Rattle.deck.proofs.Late.{both_true}
-use Rattle.record.specs.Bytes.{entries_of, is_record, written_by}
+use Rattle.record.specs.Bytes.{entries_of, is_record}
 use Rattle.text.specs.declared.Page.{Page}
 use Rattle.text.specs.Puts.{Puts, Adds}
 use Rattle.text.proofs.Putting.{whole}

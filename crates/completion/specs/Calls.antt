@@ -1,9 +1,9 @@
 -- The call that completes a record: its numbers, what it returns, and what the output holds afterwards.
 use Rattle.std.specs.Prelude.{ℕ, ◌*◌, Option, Some, None, Bool, true, false, cond, not, ◌&&◌, List, [], ◌∷◌, ◌++◌, eqb, ltb, leb, length, take, drop}
+use Rattle.refusal.specs.Written.{Written}
 use Rattle.deck.specs.declared.Sent.{Sent}
 use Rattle.deck.specs.Line.{Reply}
 use Rattle.record.specs.declared.Entry.{Entry}
-use Rattle.record.specs.Bytes.{Written}
 use Rattle.record.specs.Entries.{formed, is_deck}
 use Rattle.record.specs.Bytes.{entries_of, record_of, is_record}
 use Rattle.completion.specs.Completed.{on_line, with_reply, completed}

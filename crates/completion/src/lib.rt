@@ -3,7 +3,8 @@
 
 ghost use Rattle.std.specs.Prelude.{◌≡◌};
 ghost use Rattle.refusal.specs.Numbers.{no_of};
-ghost use Rattle.record.specs.Bytes.{entries_of, written_by};
+ghost use Rattle.refusal.specs.Written.{written_by};
+ghost use Rattle.record.specs.Bytes.{entries_of};
 ghost use Rattle.completion.specs.Calls.{follows, all_follow, refusal, written, written_out};
 
 use cursor::Cursor;

@@ -9,9 +9,10 @@ use borrow.Rule.Slice.PartMut.{mid_of, put_mid}
 use lib.ListN.{length, take, drop, length-drop, drop_of_length-le}
 use lib.Seq.{take_all, take_at, drop_at, drop-drop}
 use Rattle.refusal.specs.declared.Refusal.{Refusal}
-use Rattle.refusal.proofs.Numbers.{refuses}
+use Rattle.refusal.specs.Written.{written_by}
+use Rattle.refusal.proofs.Written.{taken}
 use Rattle.block.proofs.Writing.{fits-writes, answer-written, output-written}
-use Rattle.block.specs.Write.{Written, write_no, written_by, written, written_out}
+use Rattle.block.specs.Write.{write_no, written, written_out}
 use Rattle.settings.specs.declared.Settings.{Settings}
 use Rattle.execute.specs.Execute.{execute, executed, executed_out, shown, shown_out}
 use Rattle.execute.specs.Replies.{nak}
@@ -22,11 +23,7 @@ module _ (why : ℕ) (out : List ℕ) (room : 4 ≤ length out) where
   fits = fits-writes 0x1 (why ∷ []) out (record { small = omega arith; few = omega arith; room = omega arith })
 
   pub nak-answer : (r : Result ℕ Refusal) → written_by r ≡ written 0x1 (why ∷ []) out → r ≡ Ok 4
-  nak-answer r e = by r (e ∙ answer-written 0x1 (why ∷ []) out 4 refl fits)
-    where
-      by : (r : Result ℕ Refusal) → written_by r ≡ record { no = 0; len = 4 } → r ≡ Ok 4
-      by (Ok n) e = ap (λ (w : Written). Ok w.len) e
-      by (Err x) e = absurd (refuses x (ap (λ (w : Written). w.no) e))
+  nak-answer r e = taken r 4 (e ∙ answer-written 0x1 (why ∷ []) out 4 refl fits)
 
   pub nak-output : written_out 0x1 0x12 (why ∷ []) out ≡ nak why ++ drop 4 out
   nak-output = output-written 0x1 (why ∷ []) out 0x12 fits

@@ -1,9 +1,10 @@
 -- A reply that fits into the output is written whole: its length, and what the output then holds.
 use Rattle.std.proofs.Common.{Result, Ok, Err, ◌≡◌, ℕ, ◌≤◌, List, ◌++◌, length, drop, sym, ap, ◌∙◌, arith}
 use Rattle.refusal.specs.declared.Refusal.{Refusal}
-use Rattle.refusal.proofs.Numbers.{refuses}
+use Rattle.refusal.specs.Written.{written_by}
+use Rattle.refusal.proofs.Written.{taken}
 use Rattle.block.specs.Block.{block_of}
-use Rattle.block.specs.Write.{Written, written_by, written, written_out, write_no}
+use Rattle.block.specs.Write.{written, written_out, write_no}
 use Rattle.block.proofs.Writing.{length-block, fits-writes, answer-written, output-written}
 
 module _ (group command : ℕ) (bytes out : List ℕ) (g : group ≤ 15) (n : length bytes ≤ 15) (room : 18 ≤ length out) where
@@ -12,13 +13,8 @@ module _ (group command : ℕ) (bytes out : List ℕ) (g : group ≤ 15) (n : le
 
   pub reply-is : (r : Result ℕ Refusal) → written_by r ≡ written group bytes out → r ≡ Ok (length (block_of group command bytes))
   reply-is r e =
-      by r
+      taken r _
       (e ∙ answer-written group bytes out (length (block_of group command bytes)) (length-block group command bytes) fitting)
-    where
-      by : (r : Result ℕ Refusal) → written_by r ≡ record { no = 0; len = length (block_of group command bytes) }
-          → r ≡ Ok (length (block_of group command bytes))
-      by (Ok n) e = ap (λ (w : Written). Ok w.len) e
-      by (Err x) e = absurd (refuses x (ap (λ (w : Written). w.no) e))
 
   pub reply-out : written_out group command bytes out
       ≡ block_of group command bytes ++ drop (length (block_of group command bytes)) out

@@ -2,7 +2,8 @@
 #![tactic(auto)]
 
 ghost use Rattle.std.specs.Prelude.{◌≡◌, [], ◌∷◌};
-ghost use Rattle.block.specs.Write.{written_by, written, written_out};
+ghost use Rattle.refusal.specs.Written.{written_by};
+ghost use Rattle.block.specs.Write.{written, written_out};
 ghost use Rattle.execute.specs.Replies.{opens_quiet};
 ghost use Rattle.execute.specs.Execute.{why_of, block_in, execute, shown, shown_out, executed, executed_out};
 

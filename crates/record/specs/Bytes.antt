@@ -3,6 +3,7 @@ use Rattle.std.specs.Prelude.{ℕ, zero, suc, ◌/◌, ◌%◌, ◌<◌, ◌^◌
 use Rattle.packed.specs.Numbers.{low_first, low_bytes}
 use Rattle.refusal.specs.declared.Refusal.{Refusal}
 use Rattle.refusal.specs.Numbers.{number_of}
+use Rattle.refusal.specs.Written.{Written}
 use Rattle.record.specs.declared.Entry.{Entry}
 use Rattle.record.specs.Entries.{entry}
 
@@ -61,16 +62,6 @@ abbrev pub read_at : List ℕ → ℕ → Fetched
 read_at bytes i = record { no = cond (ltb i (length (entries_of bytes))) 0 10; entry = get_or (entries_of bytes) i no_entry }
 
 -- ---- the writer
-
--- how many bytes were written, or the number that refuses the call
-pub record Written : Type 0 where
-  pub no : ℕ
-  pub len : ℕ
-
--- an answer, as number and length: 0 where it refuses
-abbrev pub written_by : Result ℕ Refusal → Written
-written_by (Ok n) = record { no = 0; len = n }
-written_by (Err r) = record { no = number_of r; len = 0 }
 
 -- 1 ROOM: "lent output too short"; 2 LATE: "time over 281,474,976,710,655"
 unfoldable pub write_no : Entry → List ℕ → ℕ

@@ -2,7 +2,8 @@
 #![tactic(auto)]
 
 ghost use Rattle.std.specs.Prelude.{◌≡◌};
-ghost use Rattle.record.specs.Bytes.{entry_of, bytes_of, is_record, fetched_by, read_at, written_by, written, written_out};
+ghost use Rattle.refusal.specs.Written.{written_by};
+ghost use Rattle.record.specs.Bytes.{entry_of, bytes_of, is_record, fetched_by, read_at, written, written_out};
 
 use deck::LAST_TIME;
 pub use form::formed;

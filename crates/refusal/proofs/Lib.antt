@@ -1,2 +1,3 @@
--- That a number tells its refusal.
+-- That a number tells its refusal, and one of a call that writes that it was taken.
 pub mod Numbers
+pub mod Written

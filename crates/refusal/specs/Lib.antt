@@ -1,2 +1,3 @@
--- The numbers of document 01 that refuse a call.
+-- The numbers of document 01 that refuse a call, and what a call returns that writes.
 pub mod Numbers
+pub mod Written

@@ -14,11 +14,12 @@ use lib.Seq.{take-append_seam}
 use Rattle.io.specs.Counts.{IsPrefixLen}
 use Rattle.refusal.specs.declared.Refusal.{Refusal}
 use Rattle.refusal.specs.declared.Refusal.TheVariants.{Room}
-use Rattle.refusal.proofs.Numbers.{refuses}
+use Rattle.refusal.specs.Written.{written_by}
+use Rattle.refusal.proofs.Written.{taken as wrote}
 use Rattle.text.specs.declared.Page.{Page}
 use Rattle.text.specs.Puts.{Adds}
 use Rattle.text.proofs.Putting.{whole}
-use Rattle.report.specs.Text.{Written, written_by, written_in, written_out}
+use Rattle.report.specs.Text.{written_in, written_out}
 
 -- ---- an output with room
 
@@ -34,8 +35,7 @@ module _ (room : ℕ) (text out : List ℕ) (enough : room ≤ length out) where
   -- a call that writes is taken
   pub taken : (r : Result ℕ Refusal) → written_by r ≡ written_in room text out → r ≡ Ok (length text)
   unfolding written_in
-  taken (Ok len) e = ap Ok (ap (λ (w : Written). w.len) e ∙ long)
-  taken (Err x) e = absurd (refuses x (ap (λ (w : Written). w.no) e ∙ rw (le-ltb _ _ enough)))
+  taken r e = wrote r (length text) (e ∙ rw (le-ltb _ _ enough))
 
 -- and without, one that is refused
 module _ (room : ℕ) (text out : List ℕ) (short : room ≤ length out → false ≡ true) where

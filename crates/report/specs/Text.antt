@@ -1,7 +1,6 @@
 -- What the programs print in common: a refusal, and a text in an output.
-use Rattle.std.specs.Prelude.{ℕ, cond, List, [], ◌∷◌, ◌++◌, ltb, length, drop, Result, Ok, Err}
-use Rattle.refusal.specs.declared.Refusal.{Refusal}
-use Rattle.refusal.specs.Numbers.{number_of}
+use Rattle.std.specs.Prelude.{ℕ, cond, List, [], ◌∷◌, ◌++◌, ltb, length, drop}
+use Rattle.refusal.specs.Written.{Written}
 use Rattle.text.specs.Text.{line}
 
 -- "refused 10"
@@ -10,16 +9,6 @@ refused = 114 ∷ 101 ∷ 102 ∷ 117 ∷ 115 ∷ 101 ∷ 100 ∷ 32 ∷ []
 
 abbrev pub refused_line : ℕ → List ℕ
 refused_line number = line refused number
-
--- 0 and the length of the text, or the number that refuses the output
-pub record Written : Type 0 where
-  pub no : ℕ
-  pub len : ℕ
-
--- an answer, as number and length: 0 where it refuses
-abbrev pub written_by : Result ℕ Refusal → Written
-written_by (Ok len) = record { no = 0; len = len }
-written_by (Err e) = record { no = number_of e; len = 0 }
 
 -- 1 ROOM for an output with less than so much room, with nothing written; else the length of the text
 unfoldable pub written_in : ℕ → (text out : List ℕ) → Written

@@ -2,7 +2,8 @@
 #![tactic(auto)]
 
 ghost use Rattle.std.specs.Prelude.{◌≡◌, ◌+◌, ◌*◌, ◌<◌, ◌≤◌, ◌↔◌, length, IsOk, IsOkUnless};
-ghost use Rattle.report.specs.Text.{written_by, written_in, written_out};
+ghost use Rattle.refusal.specs.Written.{written_by};
+ghost use Rattle.report.specs.Text.{written_in, written_out};
 ghost use Rattle.report.specs.Verdict.{text_of, room_for};
 ghost use Rattle.report.specs.Transcript.{transcript, room_for as room_for_bytes};
 

@@ -1,7 +1,8 @@
 -- `answer::answer` meets its contract: an output with room is taken.
 use mathlib.Core.Path.{◌≡◌, refl, sym, ap, ◌∙◌}
 use lib.ListN.{take}
-use Rattle.report.specs.Text.{Written, written_by, written_in}
+use Rattle.refusal.specs.Written.{Written, written_by}
+use Rattle.report.specs.Text.{written_in}
 use Rattle.report.specs.Transcript.{transcript, room_for}
 use Rattle.report.proofs.Room.{long, told, taken, counts}
 use Rattle.answer.proofs.answer.Goals as goal

@@ -1,8 +1,8 @@
 -- `complete::answer` meets its contract.
 use Rattle.std.proofs.Common.{◌≡◌, sym, ap, ◌∙◌, length, take, arith}
 use Rattle.std.proofs.lemmas.Grind.{common_steps}
+use Rattle.refusal.specs.Written.{Written}
 use Rattle.refusal.proofs.Numbers.{refuses}
-use Rattle.record.specs.Bytes.{Written}
 use Rattle.report.specs.Text.{refused, refused_line}
 use Rattle.report.proofs.Room.{counts}
 use Rattle.text.proofs.Lengths.{line-few}

@@ -1,9 +1,10 @@
 -- `mark::answer` meets its contract: the table has a place for each turn, and an output with room is taken.
 use Rattle.std.proofs.Common.{ℕ, List, ◌≡◌, ◌≤◌, refl, sym, ap, ◌∙◌, length, take, arith, length-take, replicate}
 use lib.ListN.{length-replicate}
+use Rattle.refusal.specs.Written.{Written, written_by}
 use Rattle.marker.specs.declared.Marked.{Marked}
 use Rattle.marker.specs.Marks.{Marks}
-use Rattle.report.specs.Text.{Written, written_by, written_in}
+use Rattle.report.specs.Text.{written_in}
 use Rattle.report.specs.Verdict.{text_of, room_for}
 use Rattle.report.proofs.Room.{long, told, taken, counts}
 use Rattle.mark.proofs.Counts.{counted}
