@@ -11,6 +11,7 @@ use lib.ListN.{length}
 use Rattle.packed.specs.declared.Tail.{Tail}
 use Rattle.packed.specs.Tail.{recent, kept, latest}
 use Rattle.packed.proofs.Tails.{length-latest, latest-most, latest-more}
+use Rattle.execute.specs.declared.FullBlock.{FullBlock}
 use Rattle.execute.specs.Execute.{block_in, execute}
 use Rattle.deck.specs.declared.Deck.{Deck as Held}
 use Rattle.deck.specs.Line.{deck, silently, is_open, size, replied, taken}
@@ -38,7 +39,10 @@ opened (suc n) first t h = refl
 -- ---- a byte more
 
 -- the block in parts, as it is handed over
-pub in_parts : (n first b : ℕ) (t : Tail) → 1 ≤ n → block_in (first % 256) (n - 1) t b ≡ open_block n first t ++ b ∷ []
+abbrev pub handed : (n first b : ℕ) → Tail → FullBlock
+handed n first b t = record { first = first % 256; tail = t; count = n - 1; last = b }
+
+pub in_parts : (n first b : ℕ) (t : Tail) → 1 ≤ n → block_in (handed n first b t) ≡ open_block n first t ++ b ∷ []
 in_parts zero first b t h = absurd (omega arith)
 in_parts (suc n) first b t h = let e : suc n - 1 ≡ n = omega arith in rw e
 

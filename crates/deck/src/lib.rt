@@ -92,7 +92,7 @@ impl Deck {
         if !self.hears(time) {
             return Ok(Joined::Other);
         }
-        if self.ends() {
+        if self.next_fills() {
             return Ok(Joined::Fills);
         }
         self.clock = time;
@@ -105,7 +105,7 @@ impl Deck {
             self (byte time content 0) out.old (returned self result) out.new }
     {
         self.check(out.len(), time, 0, 0)?;
-        if !self.hears(time) || !self.ends() {
+        if !self.hears(time) || !self.next_fills() {
             return Ok(self.silent());
         }
         self.clock = time;
@@ -133,6 +133,8 @@ impl Deck {
         Ok(self.looked(time, out))
     }
 
+    // `position` and `cassette` are alike but for the change, and the first two lines of each call are its tests and its time: a function
+    // for both would take the change as a closure, with a contract over it, and be no plainer.
     pub fn position(mut self, time: u64, place: u32, out: &mut [u8]) -> Result<Answer, Refusal>
         ensures { Answers self (position time place) out.old (returned self result) out.new }
     {

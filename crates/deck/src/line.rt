@@ -1,4 +1,5 @@
-// The line: time-out, quiet and the open block. Every function here comes after the tests of a call.
+// The line: time-out, quiet and the open block. Every function here comes after the tests of a call. What five of them ask for, `Admitted`,
+// is a clause: a type of the time and the lent output that keeps it would be no plainer, made once and taken apart in each.
 ghost use Rattle.std.specs.Prelude.{◌≡◌, ℕ, true, not, ◌&&◌, [], ◌∷◌, ◌++◌, ◌+◌, ◌≤◌, ◌<◌, ◌^◌, leb, length};
 ghost use Rattle.std.specs.Prelude.{None};
 ghost use Rattle.execute.specs.Execute.{execute};
@@ -39,7 +40,7 @@ impl Deck {
     }
 
     // A clean byte, whatever its content, fills the block.
-    pub(super) fn ends(self) -> bool
+    pub(super) fn next_fills(self) -> bool
         ensures { (content : ℕ) → result ≡ leb (size ((view self).block ++ content ∷ [])) (length (view self).block + 1) }
     {
         (self.first % 16) as usize + 1 < self.held
@@ -138,7 +139,7 @@ impl Deck {
         requires { Admitted time out.old }
         ensures { Comes self (taken (view self) ((view self).block ++ content ∷ []) time) out.old result out.new }
     {
-        if self.ends() {
+        if self.next_fills() {
             return self.full(time, content, out);
         }
         self.grown(time, content).silent()

@@ -11,6 +11,7 @@ use Rattle.settings.specs.declared.Settings.{Settings}
 use Rattle.command.specs.Commands.{commands, lookup}
 use Rattle.command.proofs.Listed.{unlisted-long}
 use Rattle.execute.specs.Replies.{refused, undefined, bad_checksum}
+use Rattle.execute.specs.declared.FullBlock.{FullBlock}
 use Rattle.execute.specs.Execute.{carry, execute, block_in}
 use Rattle.execute.proofs.Carried.{execute-read}
 use Rattle.execute.proofs.Faults.{bad-checksum, not_listed}
@@ -29,20 +30,18 @@ long count t n e k = by (dec_le count 16)
         ⊎_elim (λ m. omega (arith, e, all, m)) (λ m. absurd (m (sym all ∙ e))) k
     by (no h) = omega (arith, e, ap length (latest-most count t (omega arith)), length-latest 16 t (omega arith))
 
-pub refusal : (s : Settings) (first count : ℕ) (t : Tail) (last : ℕ) → (5 < count) ⊎ (count ≡ first % 16 + 1 → ⊥)
-    → execute s (block_in first count t last)
-    ≡ refused s (cond (eqb (read_no (block_in first count t last)) 0) undefined bad_checksum)
-refusal s first count t last k = by (ℕ_discrete (read_no (block_in first count t last)) 0)
+pub refusal : (s : Settings) (b : FullBlock) → (5 < b.count) ⊎ (b.count ≡ b.first % 16 + 1 → ⊥)
+    → execute s (block_in b) ≡ refused s (cond (eqb (read_no (block_in b)) 0) undefined bad_checksum)
+refusal s b k = by (ℕ_discrete (read_no (block_in b)) 0)
   where
-    by : Dec (read_no (block_in first count t last) ≡ 0)
-        → execute s (block_in first count t last)
-        ≡ refused s (cond (eqb (read_no (block_in first count t last)) 0) undefined bad_checksum)
+    by : Dec (read_no (block_in b) ≡ 0)
+        → execute s (block_in b) ≡ refused s (cond (eqb (read_no (block_in b)) 0) undefined bad_checksum)
     by (yes e) =
-        let block = block_in first count t last in
-        let n = long count t (first % 16) (parts-length first (latest count t) last e) k in
-        rw (eq-eqb (read_no block) 0 e) (not_listed s block e (unlisted-long first (get_or block 1 0) n))
+        let block = block_in b in
+        let n = long b.count b.tail (b.first % 16) (parts-length b.first (latest b.count b.tail) b.last e) k in
+        rw (eq-eqb (read_no block) 0 e) (not_listed s block e (unlisted-long b.first (get_or block 1 0) n))
     by (no e) =
-        let block = block_in first count t last in
+        let block = block_in b in
         rw (ne_eqb (read_no block) 0 e) (bad-checksum s block e)
 
 -- ---- short
@@ -63,19 +62,18 @@ read_short s first command last middle bytes four same zero =
     ∙ ap (carry (lookup commands first command) s) (parts-data first command part last reads)
     ∙ listed-data s bytes four first command)
 
-module _ (s : Settings) (first count : ℕ) (t : Tail) (last command : ℕ) (bytes : List ℕ) (four : length bytes ≡ 4)
-    (small : count ≤ 5) (sized : count ≡ first % 16 + 1) (same : latest count t ≡ command ∷ take (count - 1) bytes)
-    (sums : checksum (latest count t) ≡ checksum (command ∷ bytes)) where
-  summed : checksum (first ∷ latest count t) ≡ checksum (first ∷ command ∷ bytes)
-  summed = sum-behind first (latest count t) (command ∷ bytes) sums
+module _ (s : Settings) (b : FullBlock) (command : ℕ) (bytes : List ℕ) (four : length bytes ≡ 4)
+    (small : b.count ≤ 5) (sized : b.count ≡ b.first % 16 + 1) (same : latest b.count b.tail ≡ command ∷ take (b.count - 1) bytes)
+    (sums : checksum (latest b.count b.tail) ≡ checksum (command ∷ bytes)) where
+  summed : checksum (b.first ∷ latest b.count b.tail) ≡ checksum (b.first ∷ command ∷ bytes)
+  summed = sum-behind b.first (latest b.count b.tail) (command ∷ bytes) sums
 
-  pub short-bad : (checksum (first ∷ command ∷ bytes) ≡ last → ⊥) → execute s (block_in first count t last) ≡ refused s bad_checksum
-  short-bad n = bad-checksum s (block_in first count t last) (λ e. n (sym summed ∙ parts-sum first (latest count t) last e))
+  pub short-bad : (checksum (b.first ∷ command ∷ bytes) ≡ b.last → ⊥) → execute s (block_in b) ≡ refused s bad_checksum
+  short-bad n = bad-checksum s (block_in b) (λ e. n (sym summed ∙ parts-sum b.first (latest b.count b.tail) b.last e))
 
-  pub short-read : checksum (first ∷ command ∷ bytes) ≡ last
-      → execute s (block_in first count t last) ≡ carry (lookup commands first command) s bytes
+  pub short-read : checksum (b.first ∷ command ∷ bytes) ≡ b.last → execute s (block_in b) ≡ carry (lookup commands b.first command) s bytes
   short-read e =
-      let less : count - 1 ≡ first % 16 = omega (arith, sized) in
-      read_short s first command last (latest count t) bytes four
+      let less : b.count - 1 ≡ b.first % 16 = omega (arith, sized) in
+      read_short s b.first command b.last (latest b.count b.tail) bytes four
       (same ∙ ap (λ (n : ℕ). command ∷ take n bytes) less)
-      (parts-read first (latest count t) last (length-latest count t (omega (arith, small)) ∙ sized) (summed ∙ e))
+      (parts-read b.first (latest b.count b.tail) b.last (length-latest b.count b.tail (omega (arith, small)) ∙ sized) (summed ∙ e))

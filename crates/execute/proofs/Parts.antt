@@ -5,7 +5,7 @@ use Rattle.block.specs.Block.{checksum}
 use Rattle.block.specs.Read.{read_no, read_data}
 use Rattle.block.proofs.Reading.{whole, whole-reads, length-read, data-read}
 
--- `block_in first count tail last` is `in_parts first (latest count tail) last`
+-- `block_in b` is `in_parts b.first (latest b.count b.tail) b.last`
 abbrev pub in_parts : ℕ → List ℕ → ℕ → List ℕ
 in_parts first middle last = first ∷ middle ++ last ∷ []
 

@@ -1,14 +1,14 @@
 -- Document 01: "A full block: checksum, then command with its exact count, then data; the first failure gives the NAK."
 use Rattle.std.specs.Prelude.{ℕ, Bool, cond, Option, Some, None, Result, Ok, Err, ◌&&◌, List, [], ◌∷◌, ◌++◌, length, take, drop, ◌==◌, nat_le, nat_lt, slice_index}
-use Rattle.packed.specs.declared.Tail.{Tail}
 use Rattle.packed.specs.Tail.{latest}
 use Rattle.block.specs.Read.{read_no, read_data}
 use Rattle.timecode.specs.Time.{write_time}
 use Rattle.refusal.specs.declared.Refusal.{Refusal}
 use Rattle.refusal.specs.declared.Refusal.TheVariants.{Room}
 use Rattle.execute.specs.declared.Executed.{Executed}
-use Rattle.execute.specs.declared.Fault.{Fault}
-use Rattle.execute.specs.declared.Fault.TheVariants.{Undefined, Checksum}
+use Rattle.execute.specs.declared.FullBlock.{FullBlock}
+use Rattle.execute.specs.declared.Why.{Why}
+use Rattle.execute.specs.declared.Why.TheVariants.{Undefined, Checksum}
 use Rattle.command.specs.declared.ReplyKind.{ReplyKind}
 use Rattle.command.specs.declared.ReplyKind.TheVariants.{Ack, Device, PointTime, TapeTime, Status}
 use Rattle.settings.specs.declared.Settings.{Settings}
@@ -29,8 +29,8 @@ point_code Out = 0x11
 abbrev pub time_code : ℕ → ℕ
 time_code n = cond (n == 2) 0x06 0x04
 
--- the byte of a fault
-abbrev pub why_of : Fault → ℕ
+-- the byte that says why
+abbrev pub why_of : Why → ℕ
 why_of Undefined = undefined
 why_of Checksum = bad_checksum
 
@@ -66,9 +66,9 @@ execute s block =
 
 -- ---- the call, for any settings, block and output
 
--- the block whose first byte, middle and last byte are handed over
-abbrev pub block_in : ℕ → ℕ → Tail → ℕ → List ℕ
-block_in first count t last = first ∷ latest count t ++ last ∷ []
+-- the block that is handed over in parts
+abbrev pub block_in : FullBlock → List ℕ
+block_in b = b.first ∷ latest b.count b.tail ++ b.last ∷ []
 
 -- what an outcome hands back, and what the output then holds: the reply at its front, the rest of it untouched
 abbrev pub shown : Outcome → Executed

@@ -1,11 +1,12 @@
-// Replies: each is a block at the front of the output.
+// Replies: each is a block at the front of the output. The settings go by value and the output is lent: a struct of both would be no
+// plainer, made once and taken apart in each function here.
 #![tactic(auto, unfolding(crate::specs::Execute::carry))]
 
 ghost use Rattle.std.specs.Prelude.{◌≡◌, ◌≤◌, [], length, Some};
 ghost use Rattle.execute.specs.Replies.{answered, refused};
 ghost use Rattle.execute.specs.Execute.{point_code, why_of, carry, shown, shown_out};
 
-use super::{Executed, Fault};
+use super::{Executed, Why};
 use command::{Effect, ReplyKind};
 use effects::{perform, takes};
 use settings::{Settings, Which};
@@ -23,15 +24,15 @@ fn answer(settings: Settings, group: u8, command: u8, data: &[u8], out: &mut [u8
     }
 }
 
-pub(super) fn refuse(settings: Settings, fault: Fault, out: &mut [u8; 18]) -> Executed
-    ensures answer { result ≡ shown (refused settings (why_of fault)) }
-    ensures output { out.new ≡ shown_out (refused settings (why_of fault)) out.old }
+pub(super) fn refuse(settings: Settings, why: Why, out: &mut [u8; 18]) -> Executed
+    ensures answer { result ≡ shown (refused settings (why_of why)) }
+    ensures output { out.new ≡ shown_out (refused settings (why_of why)) out.old }
 {
-    let why = fault.byte();
+    let code = why.byte();
     Executed {
         settings,
-        len: super::nak(why, out).unwrap(),
-        quiets: super::opens_quiet(why),
+        len: super::nak(code, out).unwrap(),
+        quiets: super::opens_quiet(code),
     }
 }
 
@@ -42,7 +43,7 @@ fn acknowledge(effect: Effect, settings: Settings, data: [u8; 4], out: &mut [u8;
     if takes(effect, &data) {
         answer(perform(effect, settings, &data), 0x1, 0x01, &[], out)
     } else {
-        refuse(settings, Fault::Undefined, out)
+        refuse(settings, Why::Undefined, out)
     }
 }
 
@@ -70,7 +71,7 @@ fn tape_time(settings: Settings, data: [u8; 4], out: &mut [u8; 18]) -> Executed
     let code = match data[0] {
         1 | 3 | 4 => 0x04,
         2 => 0x06,
-        _ => return refuse(settings, Fault::Undefined, out),
+        _ => return refuse(settings, Why::Undefined, out),
     };
     let time = timecode::time(settings.position).unwrap_or([0; 4]);
     answer(settings, 0x7, code, &time, out)
@@ -85,7 +86,7 @@ fn status(settings: Settings, data: [u8; 4], out: &mut [u8; 18]) -> Executed
             let bytes = settings.status();
             answer(settings, 0x7, 0x20, &bytes[..usize::from(count)], out)
         }
-        _ => refuse(settings, Fault::Undefined, out),
+        _ => refuse(settings, Why::Undefined, out),
     }
 }
 
@@ -100,7 +101,7 @@ pub(super) fn carry(
     ensures output { out.new ≡ shown_out (carry kind settings «data») out.old }
 {
     match kind {
-        None => refuse(settings, Fault::Undefined, out),
+        None => refuse(settings, Why::Undefined, out),
         Some(ReplyKind::Ack(effect)) => acknowledge(effect, settings, data, out),
         Some(ReplyKind::Device) => answer(settings, 0x1, 0x11, &[0x00, 0x02], out),
         Some(ReplyKind::PointTime(which)) => point_time(which, settings, out),

@@ -6,7 +6,7 @@ ghost use Rattle.block.specs.Read.{read_no};
 ghost use Rattle.execute.specs.Execute.{block_in, why_of};
 ghost use Rattle.execute.specs.Replies.{undefined, bad_checksum};
 
-use super::{Fault, FullBlock};
+use super::{FullBlock, Why};
 use packed::Tail;
 
 // The command byte and the data of a block that is short enough to be listed, with zeros past its data.
@@ -55,17 +55,17 @@ impl FullBlock {
     }
 
     // Why it is refused, where it is too long to be listed, or not as long as its first byte says.
-    pub(super) fn fault(self) -> Fault
+    pub(super) fn why(self) -> Why
         ensures { why_of result
-            ≡ (if nat_eq (read_no (block_in self.first self.count self.tail self.last)) 0 then undefined else bad_checksum) }
+            ≡ (if nat_eq (read_no (block_in self)) 0 then undefined else bad_checksum) }
     {
         let count = self.count.min(16);
         if count != usize::from(self.first & 15) + 1 {
-            return Fault::Checksum;
+            return Why::Checksum;
         }
         if self.first.wrapping_add(total(self.tail, count)) != self.last {
-            return Fault::Checksum;
+            return Why::Checksum;
         }
-        Fault::Undefined
+        Why::Undefined
     }
 }

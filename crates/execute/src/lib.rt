@@ -16,12 +16,13 @@ mod full;
 
 // Why a full block gets a NAK: the byte that says so.
 #[derive(Clone, Copy, Debug, PartialEq, Eq)]
-enum Fault {
+enum Why {
     Undefined = 0x01,
     Checksum = 0x04,
 }
 
-impl Fault {
+impl Why {
+    // A cast, as in `Refusal::number`: a `From` for `u8` would be no plainer, and would not say what the byte is.
     fn byte(self) -> u8
         ensures { result ≡ why_of self }
     {
@@ -32,7 +33,8 @@ impl Fault {
 // No listed command has more data than four bytes: with the command byte, five.
 const LISTED: usize = 5;
 
-// A full block in parts: its first byte, the latest `count` bytes of `tail`, and its last byte.
+// A full block in parts: its first byte, the latest `count` bytes of `tail`, and its last byte. The tail has its count beside it, as the
+// deck keeps them. A speed bar: a slice, or an array with its length, would be copied together first.
 #[derive(Clone, Copy)]
 pub struct FullBlock {
     pub first: u8,
@@ -66,15 +68,15 @@ pub fn nak(why: u8, out: &mut [u8]) -> Result<usize, Refusal>
 
 // What `execute` does, with room for the longest reply.
 fn run(settings: Settings, block: FullBlock, out: &mut [u8; 18]) -> Executed
-    ensures answer { result ≡ shown (execute settings (block_in block.first block.count block.tail block.last)) }
-    ensures output { out.new ≡ shown_out (execute settings (block_in block.first block.count block.tail block.last)) out.old }
+    ensures answer { result ≡ shown (execute settings (block_in block)) }
+    ensures output { out.new ≡ shown_out (execute settings (block_in block)) out.old }
 {
     if LISTED < block.count || block.count != usize::from(block.first & 15) + 1 {
-        return answers::refuse(settings, block.fault(), out);
+        return answers::refuse(settings, block.why(), out);
     }
     let short = block.short();
     if short.sum(block.first) != block.last {
-        return answers::refuse(settings, Fault::Checksum, out);
+        return answers::refuse(settings, Why::Checksum, out);
     }
     let kind = command::find(block.first, short.command);
     answers::carry(kind, settings, short.data, out)
@@ -82,8 +84,8 @@ fn run(settings: Settings, block: FullBlock, out: &mut [u8; 18]) -> Executed
 
 // What a full block does to the settings, with the reply at the front of the output.
 pub fn execute(settings: Settings, block: FullBlock, out: &mut [u8]) -> Result<Executed, Refusal>
-    ensures answer { result ≡ executed settings (block_in block.first block.count block.tail block.last) out.old }
-    ensures output { out.new ≡ executed_out settings (block_in block.first block.count block.tail block.last) out.old }
+    ensures answer { result ≡ executed settings (block_in block) out.old }
+    ensures output { out.new ≡ executed_out settings (block_in block) out.old }
 {
     match out.first_chunk_mut::<18>() {
         Some(front) => Ok(run(settings, block, front)),

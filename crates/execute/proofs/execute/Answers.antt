@@ -24,12 +24,11 @@ returns-in-Some-clause-answer c =
 pub returns-in-Some-clause-output : goal.returns-in-Some-clause-output
 unfolding executed_out
 returns-in-Some-clause-output c =
-    let b = c.args.block in
     let out = c.args.out.now in
     let front = c.in-Some.ensures.cases in
     let room : ltb (length out) 18 ≡ false = le-ltb _ 18 front.enough in
-    let o = execute c.args.settings (block_in b.first b.count b.tail b.last) in
-    let short : length o.bytes ≤ 18 = reply-short c.args.settings (block_in b.first b.count b.tail b.last) in
+    let o = execute c.args.settings (block_in c.args.block) in
+    let short : length o.bytes ≤ 18 = reply-short c.args.settings (block_in c.args.block) in
     rw room
     (ap (λ (l : List ℕ). l ++ drop 18 out) (c.run.ensures.output ∙ ap (shown_out o) front.same) ∙ whole o out short front.enough)
 

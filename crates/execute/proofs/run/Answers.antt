@@ -20,7 +20,7 @@ returns-then-block-gt-LISTED c =
           inr (λ e. w.if-block-from.true (e ∙ sym (low-four b.first _ w.from.ensures)))
     ] in
     let s = c.args.settings in
-    let same = refusal s b.first b.count b.tail b.last tested ∙ ap (refused s) (sym c.fault.ensures) in
+    let same = refusal s b tested ∙ ap (refused s) (sym c.why.ensures) in
     record { answer = as-answer same c.refuse.ensures.answer; output = as-output c.args.out.now same c.refuse.ensures.output }
 
 pub short-short-requires : goal.short-short-requires
@@ -34,7 +34,7 @@ returns-then-sum-block c =
     let short = c.short-short in
     let sized = c.if-block-from.false ∙ low-four b.first _ c.from.ensures in
     let same =
-    short-bad s b.first b.count b.tail b.last short.result.command short.result.«data» (search rules) c.if-block-gt-LISTED.false sized
+    short-bad s b short.result.command short.result.«data» (search rules) c.if-block-gt-LISTED.false sized
     short.ensures.bytes short.ensures.sum (λ e. c.if-sum-block.true (c.sum.ensures ∙ e)) in
     let refuse = c.refuse-then-sum-block.ensures in
     record { answer = as-answer same refuse.answer; output = as-output c.args.out.now same refuse.output }
@@ -46,7 +46,7 @@ returns c =
     let short = c.short-short in
     let sized = c.if-block-from.false ∙ low-four b.first _ c.from.ensures in
     let read =
-    short-read s b.first b.count b.tail b.last short.result.command short.result.«data» (search rules) c.if-block-gt-LISTED.false sized
+    short-read s b short.result.command short.result.«data» (search rules) c.if-block-gt-LISTED.false sized
     short.ensures.bytes short.ensures.sum (sym c.sum.ensures ∙ c.if-sum-block.false) in
     let same = read ∙ carry-kind s short.result.«data» _ _ (sym c.find-kind.ensures) in
     record { answer = as-answer same c.carry.ensures.answer; output = as-output c.args.out.now same c.carry.ensures.output }

@@ -11,7 +11,7 @@ use Rattle.deck.specs.Joins.{fills}
 use Rattle.deck.proofs.Numbers.{admitted, takes}
 use Rattle.deck.proofs.Filling.{fills-is, rests-only, refused-only, does-only, filling-refused, filling-is, fills-open, fills-answers}
 use Rattle.deck.proofs.Deck.fill.Goals as goal
-use Rattle.deck.proofs.Deck.fill.Goals.{then-not-hears-via-then-not-hears, then-not-hears-via-else-not-hears+then-not-ends}
+use Rattle.deck.proofs.Deck.fill.Goals.{then-not-hears-via-then-not-hears, then-not-hears-via-else-not-hears+then-not-next_fills}
 
 pub returns-in_err-check : goal.returns-in_err-check
 returns-in_err-check c =
@@ -29,9 +29,9 @@ returns-then-not-hears c =
       | then-not-hears-via-then-not-hears w ↦ (
           sym (fills-is a.self a.time a.content false _ w.if-not-hears.ensures refl)
           )
-      | then-not-hears-via-else-not-hears+then-not-ends w ↦ (
+      | then-not-hears-via-else-not-hears+then-not-next_fills w ↦ (
           sym (fills-is a.self a.time a.content true false w.if-not-hears.ensures
-          (w.if-not-ends.ensures a.content))
+          (w.if-not-next_fills.ensures a.content))
           )
     ] in
     rw c.silent.ensures
@@ -42,7 +42,7 @@ pub full-requires : goal.full-requires
 full-requires c =
     let a = c.args in
     let so = fills-is a.self a.time a.content true true c.if-not-hears.ensures
-    (c.if-not-ends.ensures a.content) in
+    (c.if-not-next_fills.ensures a.content) in
     let o = fills-open a.self a.time a.content so in
     (omega arith, admitted a.self (byte a.time a.content 0) a.out.now c.in_ok-check.ensures)
 
@@ -51,7 +51,7 @@ returns c =
     let a = c.args in
     let f = c.in_ok-check.ensures in
     let so = fills-is a.self a.time a.content true true c.if-not-hears.ensures
-    (c.if-not-ends.ensures a.content) in
+    (c.if-not-next_fills.ensures a.content) in
     does-only _ a.self (byte a.time a.content 0) a.out.now _ _
     (filling-is (length a.out.now) a.self a.time a.content 0 f refl true (sym so))
     (takes a.self (byte a.time a.content 0) a.out.now f _ _ (rw (fills-answers a.self a.time a.content so) c.full.ensures))

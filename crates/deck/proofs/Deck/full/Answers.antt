@@ -1,5 +1,5 @@
 -- `Deck::full` meets its contract: the outcome of the block, in the deck and in the output.
-use Prim.Native.Nat.{ℕ, ◌-◌, ◌%◌, ◌≤◌}
+use Prim.Native.Nat.{ℕ, ◌≤◌}
 use mathlib.Core.Path.{◌≡◌, refl, ◌∙◌}
 use mathlib.Core.List.{List, [], ◌∷◌, ◌++◌, append-nil}
 use lib.ListN.{length}
@@ -10,7 +10,7 @@ use Rattle.execute.specs.Execute.{block_in, execute, executed, executed_out, sho
 use Rattle.execute.specs.Replies.{Outcome}
 use Rattle.deck.specs.declared.Deck.{Deck as Held}
 use Rattle.deck.specs.Calls.{view}
-use Rattle.deck.proofs.Held.{in_parts}
+use Rattle.deck.proofs.Held.{handed, in_parts}
 use Rattle.deck.proofs.Output.{executed-shown, executed-output}
 use Rattle.deck.proofs.Seen.{same-call}
 use Rattle.deck.proofs.Deck.full.Goals as goal
@@ -20,13 +20,13 @@ module _ (d : Held) (content : ℕ) (out : List ℕ) (held : 1 ≤ d.held) (room
   abbrev outcome : Outcome
   outcome = execute d.settings ((view d).block ++ content ∷ [])
 
-  abbrev handed : List ℕ
-  handed = block_in (d.first % 256) (d.held - 1) d.tail content
+  abbrev block : List ℕ
+  block = block_in (handed d.held d.first content d.tail)
 
-  done : (r : Result Executed Refusal) → r ≡ executed d.settings handed out → r ≡ Ok (shown outcome)
+  done : (r : Result Executed Refusal) → r ≡ executed d.settings block out → r ≡ Ok (shown outcome)
   done r e = rw (in_parts d.held d.first content d.tail held) at e ∙ executed-shown d.settings ((view d).block ++ content ∷ []) out room
 
-  put : (exit : List ℕ) → exit ≡ executed_out d.settings handed out → exit ≡ shown_out outcome out
+  put : (exit : List ℕ) → exit ≡ executed_out d.settings block out → exit ≡ shown_out outcome out
   put exit e = rw (in_parts d.held d.first content d.tail held) at e ∙ executed-output d.settings ((view d).block ++ content ∷ []) out room
 
 pub unwrap-done-requires : goal.unwrap-done-requires

@@ -29,12 +29,12 @@ returns-then-not-hears c =
     (joins-taken a.self a.time a.content 0 f refl false (sym (grows-is a.self a.time a.content false _ h refl)))
     (filling-is 18 a.self a.time a.content 0 f refl false (sym (fills-is a.self a.time a.content false _ h refl))))
 
-pub returns-then-ends : goal.returns-then-ends
-returns-then-ends c =
+pub returns-then-next_fills : goal.returns-then-next_fills
+returns-then-next_fills c =
     let a = c.args in
     let f = c.in_ok-check.ensures in
     let h = c.if-not-hears.ensures in
-    let e = c.if-ends.ensures a.content in
+    let e = c.if-next_fills.ensures a.content in
     sym (joining-is a.self a.time a.content 0 false true f
     (joins-taken a.self a.time a.content 0 f refl false (sym (grows-is a.self a.time a.content true true h e)))
     (filling-is 18 a.self a.time a.content 0 f refl true (sym (fills-is a.self a.time a.content true true h e))))
@@ -43,7 +43,7 @@ pub grown-requires : goal.grown-requires
 grown-requires c =
     let a = c.args in
     let h = c.if-not-hears.ensures in
-    let e = c.if-ends.ensures a.content in
+    let e = c.if-next_fills.ensures a.content in
     omega (arith, grows-few a.self a.time a.content (grows-is a.self a.time a.content true false h e))
 
 pub returns : goal.returns
@@ -51,7 +51,7 @@ returns c =
     let a = c.args in
     let f = c.in_ok-check.ensures in
     let h = c.if-not-hears.ensures in
-    let e = c.if-ends.ensures a.content in
+    let e = c.if-next_fills.ensures a.content in
     rw c.grown.ensures
     (sym (joining-is a.self a.time a.content 0 true false f
     (joins-taken a.self a.time a.content 0 f refl true (sym (grows-is a.self a.time a.content true false h e)))

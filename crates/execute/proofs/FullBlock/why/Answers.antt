@@ -1,4 +1,4 @@
--- `FullBlock::fault` meets its contract.
+-- `FullBlock::why` meets its contract.
 use Rattle.std.proofs.Common.{◌≡◌, ℕ, ◌+◌, ◌%◌, ◌≤◌, cond, eqb, min, List, ◌∷◌, length, sym, ap, ◌∙◌, arith, eq-eqb, ne_eqb}
 use native.Mathlib.Decide.{dec_le}
 use lib.Bits.{and_mask}
@@ -10,19 +10,19 @@ use Rattle.block.specs.Read.{read_no}
 use Rattle.execute.specs.Replies.{undefined, bad_checksum}
 use Rattle.execute.proofs.Parts.{in_parts, parts-read, parts-length, parts-sum}
 use Rattle.execute.proofs.Totals.{checksum-latest}
-use Rattle.execute.proofs.FullBlock.fault.Goals as goal
+use Rattle.execute.proofs.FullBlock.why.Goals as goal
 
 module _ (first : ℕ) (middle : List ℕ) (last : ℕ) where
-  abbrev why : ℕ
-  why = cond (eqb (read_no (in_parts first middle last)) 0) undefined bad_checksum
+  abbrev code : ℕ
+  code = cond (eqb (read_no (in_parts first middle last)) 0) undefined bad_checksum
 
-  wrong-length : (length middle ≡ first % 16 + 1 → ⊥) → bad_checksum ≡ why
+  wrong-length : (length middle ≡ first % 16 + 1 → ⊥) → bad_checksum ≡ code
   wrong-length h = rw (ne_eqb _ _ (λ e. h (parts-length first middle last e)))
 
-  wrong-sum : (checksum (first ∷ middle) ≡ last → ⊥) → bad_checksum ≡ why
+  wrong-sum : (checksum (first ∷ middle) ≡ last → ⊥) → bad_checksum ≡ code
   wrong-sum h = rw (ne_eqb _ _ (λ e. h (parts-sum first middle last e)))
 
-  right : length middle ≡ first % 16 + 1 → checksum (first ∷ middle) ≡ last → undefined ≡ why
+  right : length middle ≡ first % 16 + 1 → checksum (first ∷ middle) ≡ last → undefined ≡ code
   right l s = rw (eq-eqb _ _ (parts-read first middle last l s))
 
 -- at most sixteen of the bytes between the first and the last are kept

@@ -1,6 +1,0 @@
--- `Deck::ends` meets its contract: the test of the code comes to the one of the definition.
-use Rattle.deck.proofs.Held.{ends-inside}
-use Rattle.deck.proofs.Deck.ends.Goals as goal
-
-pub returns : goal.returns
-returns c = λ b. let d = c.args.self in ends-inside d.held d.first b d.tail
