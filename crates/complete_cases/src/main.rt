@@ -8,9 +8,6 @@ mod show;
 
 use std::io::Read;
 
-// No input is so long: the bound is there for the loop to end.
-const MOST: u32 = 1000000;
-
 // The first `size` bytes, or all of them where there are fewer.
 fn first(space: &mut [u8], size: usize) -> &mut [u8] {
     let size = size.min(space.len());
@@ -19,12 +16,11 @@ fn first(space: &mut [u8], size: usize) -> &mut [u8] {
 
 // Reads as many bytes as `space` has, and has them completed. In `next` itself the check unfolds the long arrays, and gives up.
 fn read_and_complete(rt: &impl Print, input: &mut impl Read, space: &mut [u8], out: &mut [u8]) {
-    let count = streams::read_full(input, space).unwrap_or_else(|cut| cut.count);
-    let written = completion::complete(&space[..count], out);
+    let written = completion::complete(streams::read_front(input, space), out);
     let _ = show::written(rt, written, out);
 }
 
-// Takes one case, or none where the input has no more.
+// Takes one case, or none where the input has no more. Each test program has its own, since their cases have other forms.
 fn next(rt: &impl Print, input: &mut impl Read) -> Option<()> {
     let size = u32::from_le_bytes(streams::read_array(input)?) as usize;
     let room = u32::from_le_bytes(streams::read_array(input)?) as usize;
@@ -35,7 +31,8 @@ fn next(rt: &impl Print, input: &mut impl Read) -> Option<()> {
     Some(())
 }
 
+// A function for this loop, shared with the other test programs, would be the bound and the closure alone.
 fn main(rt: HostRuntime) {
     let mut input = rt.stdin();
-    let _ = (0..MOST).try_for_each(|_| next(&rt, &mut input));
+    let _ = (0..cases::MOST).try_for_each(|_| next(&rt, &mut input));
 }

@@ -12,12 +12,12 @@ pub(super) fn written(
     written: Result<usize, Refusal>,
     out: &[u8],
 ) -> io::Result<()> {
-    let no = written.err().map_or(0, Refusal::number);
-    let len = written.unwrap_or(0);
+    // A length beside the output, as `complete` hands it back: what is behind it is looked at too.
+    let (no, len) = cases::numbered(written, 0);
     println!(rt; "{no} {len}")?;
     let (record, behind) = out.split_at(len.min(out.len()));
     rt.write_all(record)?;
-    if !behind.iter().all(|byte| *byte == BLANK) {
+    if !cases::untouched(behind, BLANK) {
         println!(rt; "touched")?;
     }
     Ok(())

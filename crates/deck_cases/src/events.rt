@@ -2,7 +2,6 @@
 use crate::show;
 use deck::{Answer, Deck};
 use refusal::Refusal;
-use std::array;
 
 fn event<F: FnOnce(&mut [u8]) -> Result<Answer, Refusal>>(
     rt: &impl Print,
@@ -35,8 +34,7 @@ pub(super) fn look(rt: &impl Print, deck: Deck, room: u8, time: u64) -> Deck {
 
 // The arguments are the place in four bytes, 0 where they are missing.
 pub(super) fn position(rt: &impl Print, deck: Deck, room: u8, time: u64, args: &[u8]) -> Deck {
-    let place = array::from_fn(|at| args.get(at).copied().unwrap_or(0));
-    let place = u32::from_le_bytes(place);
+    let place = cases::number(args);
     event(rt, deck, room, |out| deck.position(time, place, out))
 }
 

@@ -10,24 +10,21 @@ use std::io::Read;
 mod events;
 mod show;
 
-// No input is so long: the bound is there for the loop to end.
-const MOST: u32 = 1000000;
-
 // The end of a sequence. The next one has a deck of its own.
 fn end(rt: &impl Print, deck: Deck) -> Deck {
     let _ = show::state(rt, deck);
     Deck::power_on()
 }
 
-// Takes one call, and hands on the deck after it, or none where the input has no more.
+// Takes one call, and hands on the deck after it, or none where the input has no more. Each test program has its own, since their cases
+// have other forms.
 fn next(rt: &impl Print, input: &mut impl Read, deck: Deck) -> Option<Deck> {
     let [letter, room] = streams::read_array::<_, 2>(input)?;
     let time = u64::from_le_bytes(streams::read_array(input)?);
     let [size] = streams::read_array::<_, 1>(input)?;
     let mut space = [0; 255];
     let args = &mut space[..usize::from(size)];
-    let count = streams::read_full(input, args).unwrap_or_else(|cut| cut.count);
-    let args = &args[..count];
+    let args = streams::read_front(input, args);
     // A table of functions is no plainer: the calls take other arguments each.
     Some(match letter {
         b'b' => events::bytes(rt, deck, room, time, args),
@@ -38,7 +35,8 @@ fn next(rt: &impl Print, input: &mut impl Read, deck: Deck) -> Option<Deck> {
     })
 }
 
+// A function for this loop, shared with the other test programs, would be the bound and the closure alone.
 fn main(rt: HostRuntime) {
     let mut input = rt.stdin();
-    let _ = (0..MOST).try_fold(Deck::power_on(), |deck, _| next(&rt, &mut input, deck));
+    let _ = (0..cases::MOST).try_fold(Deck::power_on(), |deck, _| next(&rt, &mut input, deck));
 }

@@ -7,7 +7,7 @@ use std::{fmt, io};
 // What the lent output holds before a call.
 pub const FILL: u8 = 0xAA;
 
-// Bytes in hexadecimal, each behind a space.
+// Bytes in hexadecimal, each behind a space: the lines expected of leaf_cases have brackets and small letters.
 #[derive(Clone, Copy)]
 struct Bytes<'a>(&'a [u8]);
 
@@ -34,6 +34,7 @@ impl fmt::Display for Open {
         } = self.0;
         if held != 0 {
             write!(f, " {:02X}", first % 256)?;
+            // A `Tail` is two numbers and no slice: there is nothing to iterate over but places.
             for back in (0..held - 1).rev() {
                 write!(f, " {:02X}", tail.at(back))?;
             }
@@ -42,7 +43,8 @@ impl fmt::Display for Open {
     }
 }
 
-// The replies that stand at the front of `out`, and whether the output behind them is not as it was lent.
+// The replies that stand at the front of `out`, or by what number the call was refused, and whether the output behind them is not as it
+// was lent. A `Sent` tells of a length, since reply bytes lie in the output.
 pub(super) fn answer(
     rt: &impl Print,
     answer: Result<Answer, Refusal>,
@@ -59,7 +61,7 @@ pub(super) fn answer(
             }
         }
     }
-    if !behind.iter().all(|byte| *byte == FILL) {
+    if !cases::untouched(behind, FILL) {
         println!(rt; "touched")?;
     }
     Ok(())

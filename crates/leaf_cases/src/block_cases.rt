@@ -1,7 +1,7 @@
 // Calls of the crate `block`.
-use crate::show::{Bytes, told};
-use crate::take;
+use crate::show::Bytes;
 use block::Header;
+use cases::numbered;
 use std::io;
 
 pub(super) fn sum(rt: &impl Print, args: &[u8]) -> io::Result<()> {
@@ -15,7 +15,7 @@ pub(super) fn read(rt: &impl Print, args: &[u8]) -> io::Result<()> {
         command: 0,
         count: 0,
     };
-    let (no, header) = told(block::fields(args), none);
+    let (no, header) = numbered(block::fields(args), none);
     let Header {
         group,
         command,
@@ -30,13 +30,14 @@ pub(super) fn read(rt: &impl Print, args: &[u8]) -> io::Result<()> {
 
 // Arguments: group, command, room, data. Prints all of the output, so that what is untouched is seen too.
 pub(super) fn write(rt: &impl Print, args: &[u8]) -> io::Result<()> {
-    let group = take::byte(args, 0);
-    let command = take::byte(args, 1);
-    let room = take::byte(args, 2);
+    let group = cases::byte(args, 0);
+    let command = cases::byte(args, 1);
+    let room = cases::byte(args, 2);
     let data = args.get(3..).unwrap_or(&[]);
     let mut space = [0xAA; 255];
     let out = &mut space[..usize::from(room)];
-    let (no, len) = told(block::write(group, command, data, out), 0);
+    // A length beside the output, as `write` hands it back: what is behind it is printed too.
+    let (no, len) = numbered(block::write(group, command, data, out), 0);
     let data = Bytes(data);
     println!(rt;
         "write {group} {command:02x} {data} {room} -> {no} {len} {}",

@@ -1,11 +1,10 @@
 // Calls of the crate `line`.
-use crate::{show, take};
 use line::Received;
 use std::io;
 
 pub(super) fn receive(rt: &impl Print, args: &[u8]) -> io::Result<()> {
-    let word = take::number(args);
-    let (no, Received { byte, flags }) = show::told(
+    let word = cases::number(args);
+    let (no, Received { byte, flags }) = cases::numbered(
         line::receive(word),
         Received { byte: 0, flags: 0 },
     );

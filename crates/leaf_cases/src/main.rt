@@ -8,14 +8,10 @@ mod block_cases;
 mod line_cases;
 mod show;
 mod speed_cases;
-mod take;
 mod timecode_cases;
 
 use std::io;
 use std::io::Read;
-
-// No input is so long: the bound is there for the loop to end.
-const MOST: u32 = 1000000;
 
 fn call(rt: &impl Print, letter: u8, args: &[u8]) -> io::Result<()> {
     // A table of functions is no plainer: it would have these lines too, and a search.
@@ -26,24 +22,24 @@ fn call(rt: &impl Print, letter: u8, args: &[u8]) -> io::Result<()> {
         b'w' => block_cases::write(rt, args),
         b'p' => timecode_cases::position(rt, args),
         b't' => timecode_cases::time(rt, args),
-        b'n' => timecode_cases::frame_on(rt, args),
-        b'k' => timecode_cases::frame_back(rt, args),
+        b'n' => timecode_cases::frame(rt, "frame_on", args, timecode::frame_on),
+        b'k' => timecode_cases::frame(rt, "frame_back", args, timecode::frame_back),
         b'v' => speed_cases::speed(rt, args),
         _ => println!(rt; "unknown"),
     }
 }
 
-// Takes one case, or none where the input has no more.
+// Takes one case, or none where the input has no more. Each test program has its own, since their cases have other forms.
 fn next(rt: &impl Print, input: &mut impl Read) -> Option<()> {
     let [letter, size] = streams::read_array::<_, 2>(input)?;
     let mut space = [0; 255];
     let args = &mut space[..usize::from(size)];
-    let count = streams::read_full(input, args).unwrap_or_else(|cut| cut.count);
-    let _ = call(rt, letter, &args[..count]);
+    let _ = call(rt, letter, streams::read_front(input, args));
     Some(())
 }
 
+// A function for this loop, shared with the other test programs, would be the bound and the closure alone.
 fn main(rt: HostRuntime) {
     let mut input = rt.stdin();
-    let _ = (0..MOST).try_for_each(|_| next(&rt, &mut input));
+    let _ = (0..cases::MOST).try_for_each(|_| next(&rt, &mut input));
 }

@@ -1,8 +1,7 @@
-// How bytes and answers are printed.
-use refusal::Refusal;
+// How bytes are printed.
 use std::fmt;
 
-// Bytes in hexadecimal.
+// Bytes in hexadecimal, in brackets: the lines expected of deck_cases have none, and capitals.
 #[derive(Clone, Copy)]
 pub(super) struct Bytes<'a>(pub &'a [u8]);
 
@@ -13,13 +12,5 @@ impl fmt::Display for Bytes<'_> {
             write!(f, " {byte:02x}")?;
         }
         f.write_str(" ]")
-    }
-}
-
-// An answer as document 01 has it: a number, 0 where nothing is refused, and a value, here `none` where something is.
-pub(super) fn told<T: Drop>(answer: Result<T, Refusal>, none: T) -> (u8, T) {
-    match answer {
-        Ok(value) => (0, value),
-        Err(refusal) => (refusal.number(), none),
     }
 }

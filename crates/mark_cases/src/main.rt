@@ -8,25 +8,22 @@ mod show;
 
 use std::io::Read;
 
-// No input is so long: the bound is there for the loop to end.
-const MOST: u32 = 1000000;
-
-// Takes one case, or none where the input has no more.
+// Takes one case, or none where the input has no more. Each test program has its own, since their cases have other forms.
 fn next(rt: &impl Print, input: &mut impl Read) -> Option<()> {
     let size = u32::from_le_bytes(streams::read_array(input)?) as usize;
     let places = u32::from_le_bytes(streams::read_array(input)?) as usize;
     // Room for a record and a table that are larger than the largest.
     let mut space = [0; 65552];
     let mut table = [show::FILL; 6000];
-    let bytes = &mut space[..size.min(65552)];
     let table = &mut table[..places.min(6000)];
-    let count = streams::read_full(input, bytes).unwrap_or_else(|cut| cut.count);
-    let marked = marker::mark(&bytes[..count], table).into();
+    let record = streams::read_front(input, &mut space[..size.min(65552)]);
+    let marked = marker::mark(record, table).into();
     let _ = show::marked(rt, marked, table);
     Some(())
 }
 
+// A function for this loop, shared with the other test programs, would be the bound and the closure alone.
 fn main(rt: HostRuntime) {
     let mut input = rt.stdin();
-    let _ = (0..MOST).try_for_each(|_| next(&rt, &mut input));
+    let _ = (0..cases::MOST).try_for_each(|_| next(&rt, &mut input));
 }

@@ -21,13 +21,14 @@ pub(super) fn marked(rt: &impl Print, marked: Marked, table: &[u32]) -> io::Resu
     let (starts, unused) = table.split_at(count.min(table.len()));
     let mut space = [BLANK; 96064];
     let out = &mut space[..64 + 16 * starts.len().min(6000)];
+    // A length beside the output, as `report::text` hands it back: what is behind it is looked at too.
     let len = report::text(marked, starts, out).unwrap_or(0);
     let (text, behind) = out.split_at(len.min(out.len()));
     rt.write_all(text)?;
-    if !behind.iter().all(|byte| *byte == BLANK) {
+    if !cases::untouched(behind, BLANK) {
         println!(rt; "touched")?;
     }
-    if !unused.iter().all(|start| *start == FILL) {
+    if !cases::untouched(unused, FILL) {
         println!(rt; "touched")?;
     }
     Ok(())
