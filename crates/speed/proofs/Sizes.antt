@@ -1,10 +1,9 @@
 -- The sign and the size of a speed, as the code reads it from the bits of an i32: `of_z` puts a number there, `to_z` reads it.
-use Prim.Native.Nat.{suc}
-use mathlib.Core.Path.{◌≡◌, refl, ap, ◌∙◌}
+use mathlib.Core.Path.{◌≡◌, refl}
 use mathlib.Core.Bool.{true, false, true≢false}
 use native.Mathlib.Omega.{arith}
-use borrow.Author.Tests.{ltb-true, le-ltb}
-use lib.IntN.{ℤ, pos, negsuc, ◌-ℤ◌}
+use borrow.Author.Tests.{ltb-true}
+use lib.IntN.{ℤ, pos, negsuc}
 use lib.Signed.{lt_z, mag}
 use mir.Syntax.{w32}
 use mir.Val.{SFits, to_z, of_z}
@@ -21,14 +20,3 @@ backward (negsuc n) f h = refl
 pub forward : (z : ℤ) → SFits w32 z → lt_z (stored z) (pos 0) ≡ false → z ≡ pos (mag z)
 forward (pos n) f h = refl
 forward (negsuc n) f h = absurd (true≢false (rw (to_z-of_z w32 (negsuc n) f) at h))
-
--- the code takes a reverse speed from -1, which fits for the least number too
-module _ (z : ℤ) (f : SFits w32 z) (h : lt_z (stored z) (pos 0) ≡ true) where
-  turned : negsuc 0 -ℤ stored z ≡ pos (mag z)
-  turned = rw (to_z-of_z w32 z f, backward z f h, le-ltb (suc (mag z)) 1 (omega arith)) (ap pos (omega arith))
-
-  pub turned-fits : SFits w32 (negsuc 0 -ℤ stored z)
-  turned-fits = rw turned (record { sfits = f.sfits })
-
-  pub turned-bits : to_z w32 (of_z w32 (negsuc 0 -ℤ stored z)) ≡ pos (mag z)
-  turned-bits = to_z-of_z w32 (negsuc 0 -ℤ stored z) turned-fits ∙ turned

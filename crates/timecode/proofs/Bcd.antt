@@ -1,11 +1,11 @@
 -- BCD bytes and their values: each gives the other back.
-use mathlib.Core.Bool.{true, cond}
+use mathlib.Core.Bool.{true}
 use mathlib.Core.Path.{◌≡◌}
 use Prim.Native.Nat.{ℕ, ◌/◌, ◌%◌, ◌≤◌, ◌<◌}
 use native.Mathlib.Omega.{arith}
 use borrow.Author.Tests.{lt-ltb, ltb-true}
 use Rattle.timecode.specs.Bcd.{bcd, bcd_value, is_bcd, bcd_below}
-use Rattle.timecode.proofs.Tests.{both, chosen}
+use Rattle.timecode.proofs.Tests.{both}
 
 pub bcd-value : (n : ℕ) → bcd_value (bcd n) ≡ n
 bcd-value n = omega arith
@@ -32,7 +32,3 @@ below-byte limit byte e = value-bcd byte (both (is_bcd byte) _ e).0
 
 pub bcd-lt : (n : ℕ) → n < 100 → bcd n < 256
 bcd-lt n h = omega arith
-
--- the value that `digits` gives stays below the limit
-pub value-lt : (limit byte : ℕ) → 0 < limit → cond (bcd_below limit byte) (bcd_value byte) 0 < limit
-value-lt limit byte some = chosen (λ (v : ℕ). v < limit) (bcd_below limit byte) _ _ (below-value limit byte) some
