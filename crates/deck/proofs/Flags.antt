@@ -1,9 +1,10 @@
 -- The mask that the code tests the flags by.
 use Prim.Native.Nat.{ℕ, ◌+◌, ◌*◌, ◌/◌, ◌%◌, ◌<◌}
 use mathlib.Core.Bool.{Bool, true, false, ◌&&◌}
-use mathlib.Core.Path.{◌≡◌, refl, ap, ◌∙◌}
+use mathlib.Core.Path.{◌≡◌, refl, sym, ap, ◌∙◌}
 use native.Mathlib.Omega.{arith}
-use borrow.Author.Tests.{lt-ltb, eq-eqb, ltb-true, eqb-true}
+use borrow.Author.Tests.{lt-ltb, eq-eqb, ltb-true, eqb-true, eqb-false}
+use lib.Dec.{eqb}
 use lib.Bits.{bit_and, and_block, and_mask}
 use Rattle.deck.specs.Calls.{flags_fit}
 
@@ -18,10 +19,17 @@ not-both false b h = refl
 not-both true false h = refl
 not-both true true h = absurd (h refl refl)
 
-pub fit : (flags : ℕ) → flags < 256 → bit_and flags 0x8F ≡ 0 → flags_fit flags ≡ true
+fit : (flags : ℕ) → flags < 256 → bit_and flags 0x8F ≡ 0 → flags_fit flags ≡ true
 fit flags h e =
     let m = masked flags in
     simp (eq-eqb (flags % 16) 0 (omega arith), lt-ltb flags 0x80 (omega arith))
 
-pub unfit : (flags : ℕ) → flags < 256 → (bit_and flags 0x8F ≡ 0 → ⊥) → flags_fit flags ≡ false
+unfit : (flags : ℕ) → flags < 256 → (bit_and flags 0x8F ≡ 0 → ⊥) → flags_fit flags ≡ false
 unfit flags h n = not-both _ _ (λ p q. n (omega (arith, masked flags, eqb-true (flags % 16) 0 p, ltb-true flags 0x80 q)))
+
+pub mask_fits : (flags : ℕ) → flags < 256 → eqb (bit_and flags 0x8F) 0 ≡ flags_fit flags
+mask_fits flags h = go (eqb (bit_and flags 0x8F) 0) refl
+  where
+    go : (x : Bool) → eqb (bit_and flags 0x8F) 0 ≡ x → x ≡ flags_fit flags
+    go true p = sym (fit flags h (eqb-true _ _ p))
+    go false p = sym (unfit flags h (eqb-false _ _ p))

@@ -6,6 +6,7 @@ ghost use Rattle.deck.specs.Line.{byte, look, position, cassette};
 ghost use Rattle.deck.specs.Calls.{Answers, new_deck, returned};
 ghost use Rattle.deck.specs.Joins.{joining, tried, OnlyIf, filling, striking};
 
+pub use limits::flags_fit;
 use packed::Tail;
 use refusal::Refusal;
 use settings::Settings;

@@ -1,11 +1,19 @@
 // Why a call is refused.
 ghost use Rattle.std.specs.Prelude.{◌≡◌};
 ghost use Rattle.refusal.specs.Numbers.{no_of};
-ghost use Rattle.deck.specs.Calls.{refusal};
+ghost use Rattle.deck.specs.Calls.{flags_fit, refusal};
 
 use crate::{Deck, LAST_TIME};
 use refusal::Refusal;
 use timecode::DAY;
+
+// Whether a byte may have these flags: no bit outside 70.
+#[tactic(auto, using(crate::proofs::Flags::mask_fits))]
+pub fn flags_fit(flags: u8) -> bool
+    ensures { result ≡ flags_fit flags }
+{
+    flags & 0x8F == 0
+}
 
 impl Deck {
     // The tests of a call, in document 01's order: an output with so much room, a time, flags and a position.
@@ -21,7 +29,7 @@ impl Deck {
         if time < self.clock {
             return Err(Refusal::Back);
         }
-        if flags & 0x8F != 0 {
+        if !flags_fit(flags) {
             return Err(Refusal::Flags);
         }
         if DAY <= place {

@@ -8,7 +8,8 @@ ghost use Rattle.mark.specs.Answers.{Answers};
 use marker::Marked;
 use program::Failure;
 
-// What is printed for these bytes, at the front of the output; returns its length. The table has a place for every entry.
+// What is printed for these bytes, at the front of the output; returns its length. No heap: the text lies in a lent buffer, and its
+// length is what is printed of it. The table has a place for every entry.
 fn answer(bytes: &[u8], out: &mut [u8]) -> usize
     requires { 87440 ≤ length out.old }
     ensures prefix_len { IsPrefixLen result out.new }
@@ -20,7 +21,7 @@ fn answer(bytes: &[u8], out: &mut [u8]) -> usize
 }
 
 // Of a record that is longer than the buffer 65,536 bytes are read: too many, so it is refused all the same.
-// One function for the three programs is no plainer: room, what fills it and the use are nearly all there is.
+// This and `main` stay in each of three programs: room, what fills it, use and name are nearly all there is, so one for all is no plainer.
 fn run(rt: &HostRuntime) -> Result<(), Failure> {
     let mut buf = [0; 65536];
     let count = program::read(rt, &mut rt.stdin(), &mut buf, "mark < RECORD")?;

@@ -1,28 +1,15 @@
 -- What is well formed, as the code tests it.
-use Prim.Native.Nat.{ℕ, zero, suc, ◌<◌}
-use mathlib.Core.Path.{◌≡◌, refl, sym, ap, ◌∙◌}
+use Prim.Native.Nat.{ℕ, zero, suc}
+use mathlib.Core.Path.{◌≡◌, refl, ap, ◌∙◌}
 use Rattle.std.specs.Prelude.{Option, Some, None}
-use mathlib.Core.Bool.{Bool, true, false, ◌&&◌}
-use borrow.Author.Tests.{eqb-true, eqb-false}
-use lib.Bits.{bit_and}
+use mathlib.Core.Bool.{Bool, false, ◌&&◌}
 use lib.Dec.{eqb, ltb}
 use Rattle.timecode.specs.Time.{day}
 use Rattle.deck.specs.Calls.{flags_fit}
-use Rattle.deck.proofs.Flags.{fit, unfit}
 use Rattle.record.specs.declared.Entry.{Entry}
 use Rattle.record.specs.declared.kind.Kind.{Kind}
 use Rattle.record.specs.declared.kind.Kind.TheVariants.{Controller, Deck, Position, Cassette}
 use Rattle.record.specs.Entries.{kind_of, fits}
-
--- the mask that the code tests the flags by
-pub masked : (flags : ℕ) → flags < 256 → eqb (bit_and flags 0x8F) 0 ≡ flags_fit flags
-masked flags h = go (eqb (bit_and flags 0x8F) 0) refl
-  where
-    go : (x : Bool) → eqb (bit_and flags 0x8F) 0 ≡ x → x ≡ flags_fit flags
-    go true p = sym (fit flags h (eqb-true _ _ p))
-    go false p = sym (unfit flags h (eqb-false _ _ p))
-
--- ---- what is well formed, by the kind
 
 abbrev fits_as : Option Kind → Entry → Bool
 fits_as (Some Controller) e = flags_fit e.flags && ltb e.content 256

@@ -1,19 +1,12 @@
 // Whether an entry is well formed.
 ghost use Rattle.std.specs.Prelude.{◌≡◌};
-ghost use Rattle.deck.specs.Calls.{flags_fit};
 ghost use Rattle.record.specs.Entries.{fits, formed};
 
 use super::{Entry, Kind};
-use deck::LAST_TIME;
+use deck::{LAST_TIME, flags_fit};
 use timecode::DAY;
 
-#[tactic(auto, using(crate::proofs::Forms::masked))]
-fn flags_fit(flags: u8) -> bool
-    ensures { result ≡ flags_fit flags }
-{
-    flags & 0x8F == 0
-}
-
+// This table and that of `meant` stay two: two rules of the papers, and of four lines two differ; one over the other is no plainer.
 #[tactic(auto, using(crate::proofs::Forms::fits_by))]
 fn fits(e: Entry) -> bool
     ensures { result ≡ fits e.kind e }

@@ -14,21 +14,27 @@ use lib.Seq.{take-append_seam}
 use Rattle.io.specs.Counts.{IsPrefixLen}
 use Rattle.refusal.specs.declared.Refusal.{Refusal}
 use Rattle.refusal.specs.declared.Refusal.TheVariants.{Room}
-use Rattle.refusal.specs.Written.{written_by}
+use Rattle.refusal.specs.Written.{Written, written_by}
 use Rattle.refusal.proofs.Written.{taken as wrote}
 use Rattle.text.specs.declared.Page.{Page}
 use Rattle.text.specs.Puts.{Adds}
 use Rattle.text.proofs.Putting.{whole}
 use Rattle.report.specs.Text.{written_in, written_out}
 
+-- so many bytes are the text at the front
+pub counts : (n : ℕ) (out text : List ℕ) → n ≡ length text → take n out ≡ text → IsPrefixLen n out
+counts n out text l e =
+    let k : n ≡ length (take n out) = l ∙ sym (ap (λ (xs : List ℕ). length xs) e) in
+    (omega (arith, k, length-take n out), k)
+
 -- ---- an output with room
 
 module _ (room : ℕ) (text out : List ℕ) (enough : room ≤ length out) where
-  pub long : (written_in room text out).len ≡ length text
+  long : (written_in room text out).len ≡ length text
   unfolding written_in
   long = rw (le-ltb _ _ enough)
 
-  pub told : take (written_in room text out).len (written_out room text out) ≡ text
+  told : take (written_in room text out).len (written_out room text out) ≡ text
   unfolding written_in written_out
   told = rw (le-ltb _ _ enough) (take-append_seam text (drop (length text) out))
 
@@ -36,6 +42,14 @@ module _ (room : ℕ) (text out : List ℕ) (enough : room ≤ length out) where
   pub taken : (r : Result ℕ Refusal) → written_by r ≡ written_in room text out → r ≡ Ok (length text)
   unfolding written_in
   taken r e = wrote r (length text) (e ∙ rw (le-ltb _ _ enough))
+
+  -- and as many bytes as it says are the text
+  pub front : {r : Result ℕ Refusal} {n : ℕ} {after : List ℕ} → r ≡ Ok n → written_by r ≡ written_in room text out
+      → after ≡ written_out room text out → IsPrefixLen n after × (take n after ≡ text)
+  front {r} {n} {after} is answer output =
+      let len : n ≡ (written_in room text out).len = ap (λ (w : Written). w.len) (ap written_by (sym is) ∙ answer) in
+      let e : take n after ≡ text = rw (len, output) told in
+      (counts n after text (len ∙ long) e, e)
 
 -- and without, one that is refused
 module _ (room : ℕ) (text out : List ℕ) (short : room ≤ length out → false ≡ true) where
@@ -49,12 +63,6 @@ module _ (room : ℕ) (text out : List ℕ) (short : room ≤ length out → fal
   pub unchanged : out ≡ written_out room text out
   unfolding written_out
   unchanged = rw small
-
--- so many bytes are the text at the front
-pub counts : (n : ℕ) (out text : List ℕ) → n ≡ length text → take n out ≡ text → IsPrefixLen n out
-counts n out text l e =
-    let k : n ≡ length (take n out) = l ∙ sym (ap (λ (xs : List ℕ). length xs) e) in
-    (omega (arith, k, length-take n out), k)
 
 -- ---- a page with room
 

@@ -69,7 +69,7 @@ pub(super) fn put_transcript(page: &mut Page<'_>, bytes: &[u8]) -> Result<(), Re
     ensures { Adds page.old (transcript bytes.now) page.new result }
 {
     if !record::is_record(bytes.len()) {
-        return page.line(b"refused ", 10);
+        return page.line(b"refused ", u64::from(Refusal::Record.number()));
     }
     put_record(page, bytes)
 }

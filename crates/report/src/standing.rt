@@ -6,6 +6,7 @@ use refusal::Refusal;
 use settings::Settings;
 use text::Page;
 
+// The sign is one of the words: no other line's number has one, and a signed `line` would serve this one alone, no plainer.
 fn put_speed(page: &mut Page<'_>, v: i32) -> Result<(), Refusal>
     ensures { Adds page.old (speed_line v) page.new result }
 {

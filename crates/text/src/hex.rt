@@ -1,11 +1,12 @@
 // Bytes in hexadecimal.
-ghost use Rattle.std.specs.Prelude.{◌+◌, ◌*◌, ◌≡◌, ◌≤◌, ◌<◌, ◌↔◌, length, IsOk, IsOkUnless};
+ghost use Rattle.std.specs.Prelude.{◌≡◌, ◌<◌};
 ghost use Rattle.text.specs.Text.{hex_digit, hexes, hex_line};
 ghost use Rattle.text.specs.Writes.{Writes};
 
 use super::Page;
 use refusal::Refusal;
 
+// By hand: std's `{:02X}` writes to a Formatter and not to a lent output, so that it would be no plainer.
 fn hex_digit(n: u8) -> u8
     requires { n < 16 }
     ensures { result ≡ hex_digit n }
@@ -14,19 +15,11 @@ fn hex_digit(n: u8) -> u8
 }
 
 impl Page<'_> {
-    // Refuses so many bytes in hexadecimal, three for each, and so many others, if there is no room for them.
-    fn check_hex_room(&self, others: usize, count: usize) -> Result<(), Refusal>
-        ensures fits { IsOk result ↔ (self.now.end + (others + 3 * count) ≤ length self.now.out.now) }
-        ensures err { IsOkUnless result Refusal.Room }
-    {
-        self.check_room(count.saturating_mul(3).saturating_add(others))
-    }
-
     // Bytes in two upper-case digits, each behind a space.
     pub fn hexes(&mut self, bytes: &[u8]) -> Result<(), Refusal>
         ensures { Writes self.old (hexes bytes.now) self.new result }
     {
-        self.check_hex_room(0, bytes.len())?;
+        self.check_parts(0, 3, bytes.len())?;
         for byte in bytes {
             self.words(&[b' ', hex_digit(byte >> 4), hex_digit(byte & 15)])?;
         }
@@ -37,7 +30,7 @@ impl Page<'_> {
     pub fn hex_line(&mut self, words: &[u8], bytes: &[u8]) -> Result<(), Refusal>
         ensures { Writes self.old (hex_line words.now bytes.now) self.new result }
     {
-        self.check_hex_room(words.len() + 1, bytes.len())?;
+        self.check_parts(words.len() + 1, 3, bytes.len())?;
         self.words(words)?;
         self.hexes(bytes)?;
         self.words(b"\n")

@@ -2,7 +2,7 @@
 // and writes nothing.
 #![tactic(auto)]
 
-ghost use Rattle.std.specs.Prelude.{◌+◌, ◌≤◌, ◌↔◌, length, IsOk, IsOkUnless};
+ghost use Rattle.std.specs.Prelude.{◌+◌, ◌*◌, ◌≤◌, ◌↔◌, length, IsOk, IsOkUnless};
 ghost use Rattle.text.specs.Writes.{Writes};
 
 use refusal::Refusal;
@@ -28,6 +28,14 @@ impl Page<'_> {
             Some(left) if len <= left => Ok(()),
             _ => Err(Refusal::Room),
         }
+    }
+
+    // Refuses so many bytes, and so many more for each of some parts, if there is no room for them.
+    pub fn check_parts(&self, fixed: usize, each: usize, parts: usize) -> Result<(), Refusal>
+        ensures fits { IsOk result ↔ (self.now.end + (fixed + each * parts) ≤ length self.now.out.now) }
+        ensures err { IsOkUnless result Refusal.Room }
+    {
+        self.check_room(each.saturating_mul(parts).saturating_add(fixed))
     }
 
     // A text as it is.

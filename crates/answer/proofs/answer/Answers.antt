@@ -1,10 +1,7 @@
 -- `answer::answer` meets its contract: an output with room is taken.
-use mathlib.Core.Path.{◌≡◌, refl, sym, ap, ◌∙◌}
-use lib.ListN.{take}
-use Rattle.refusal.specs.Written.{Written, written_by}
-use Rattle.report.specs.Text.{written_in}
+use mathlib.Core.Path.{refl}
 use Rattle.report.specs.Transcript.{transcript, room_for}
-use Rattle.report.proofs.Room.{long, told, taken, counts}
+use Rattle.report.proofs.Room.{taken, front}
 use Rattle.answer.proofs.answer.Goals as goal
 
 pub unwrap-requires : goal.unwrap-requires
@@ -16,10 +13,6 @@ unwrap-requires c =
 pub returns : goal.returns
 returns c =
     let t = c.transcript in
-    let out = c.args.out.now in
-    let room = room_for c.args.bytes.now in
-    let text = transcript c.args.bytes.now in
-    let n = c.unwrap.result in
-    let is : n ≡ (written_in room text out).len = ap (λ (w : Written). w.len) (ap written_by (sym c.unwrap.ensures) ∙ t.ensures.answer) in
-    let e : take n t.new.out ≡ text = rw (is, t.ensures.output) (told room text out c.requires) in
-    record { prefix_len = counts n _ text (is ∙ long room text out c.requires) e; out_after = e }
+    let bytes = c.args.bytes.now in
+    let p = front (room_for bytes) (transcript bytes) c.args.out.now c.requires c.unwrap.ensures t.ensures.answer t.ensures.output in
+    record { prefix_len = p.0; out_after = p.1 }

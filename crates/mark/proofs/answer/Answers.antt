@@ -1,12 +1,10 @@
 -- `mark::answer` meets its contract: the table has a place for each turn, and an output with room is taken.
-use Rattle.std.proofs.Common.{ℕ, List, ◌≡◌, ◌≤◌, refl, sym, ap, ◌∙◌, length, take, arith, length-take, replicate}
+use Rattle.std.proofs.Common.{ℕ, List, ◌≡◌, ◌≤◌, refl, ap, length, take, arith, length-take, replicate}
 use lib.ListN.{length-replicate}
-use Rattle.refusal.specs.Written.{Written, written_by}
 use Rattle.marker.specs.declared.Marked.{Marked}
 use Rattle.marker.specs.Marks.{Marks}
-use Rattle.report.specs.Text.{written_in}
 use Rattle.report.specs.Verdict.{text_of, room_for}
-use Rattle.report.proofs.Room.{long, told, taken, counts}
+use Rattle.report.proofs.Room.{taken, front}
 use Rattle.mark.proofs.Counts.{counted}
 use Rattle.mark.proofs.answer.Goals as goal
 
@@ -35,13 +33,9 @@ returns c =
     let t = c.text in
     let out = c.args.out.now in
     let starts = take m.count c.mark.new.table in
-    let room = room_for starts in
-    let text = text_of m starts in
     let fits = enough out c.from-marked.ensures c.mark.ensures c.requires in
-    let n = c.unwrap.result in
-    let is : n ≡ (written_in room text out).len = ap (λ (w : Written). w.len) (ap written_by (sym c.unwrap.ensures) ∙ t.ensures.answer) in
-    let e : take n t.new.out ≡ text = rw (is, t.ensures.output) (told room text out fits) in
+    let p = front (room_for starts) (text_of m starts) out fits c.unwrap.ensures t.ensures.answer t.ensures.output in
     record {
-      prefix_len = counts n _ text (is ∙ long room text out fits) e;
-      answers = record { marked = m; table = c.mark.new.table; marks = rw c.from-marked.ensures c.mark.ensures; told = e };
+      prefix_len = p.0;
+      answers = record { marked = m; table = c.mark.new.table; marks = rw c.from-marked.ensures c.mark.ensures; told = p.1 };
     }

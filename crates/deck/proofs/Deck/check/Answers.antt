@@ -1,12 +1,10 @@
 -- `Deck::check` meets its contract: the tests of the code are those of the definition, in its order.
 use mathlib.Core.Bool.{cond, not}
 use Prim.Native.Nat.{ℕ, ◌≤◌}
-use mathlib.Core.Path.{◌≡◌}
-use native.Mathlib.Omega.{arith}
+use mathlib.Core.Path.{◌≡◌, sym, ◌∙◌}
 use borrow.Author.Tests.{lt-ltb, le-ltb, le-leb, lt-leb}
 use lib.Dec.{leb}
 use Rattle.deck.specs.Calls.{flags_fit, refusal}
-use Rattle.deck.proofs.Flags.{fit, unfit}
 use Rattle.timecode.specs.Time.{day}
 use Rattle.deck.proofs.Deck.check.Goals as goal
 
@@ -29,19 +27,19 @@ unfolding refusal
 returns-then-time-self c =
     simp (le-ltb _ _ c.if-room-lt18.false, le-ltb _ _ c.if-time-gt-LAST_TIME.false, lt-ltb _ _ c.if-time-self.true)
 
-pub returns-then-flags-ne0 : goal.returns-then-flags-ne0
-returns-then-flags-ne0 c =
+pub returns-then-not-flags_fit : goal.returns-then-not-flags_fit
+returns-then-not-flags_fit c =
     let left = past c.args.room c.args.self.clock c.args.time c.args.flags c.args.place c.if-room-lt18.false c.if-time-gt-LAST_TIME.false c.if-time-self.false in
-    rw (left, unfit c.args.flags (omega arith) c.if-flags-ne0.true)
+    rw (left, ← c.flags_fit.ensures, c.if-not-flags_fit.true)
 
 pub returns-then-place-ge-DAY : goal.returns-then-place-ge-DAY
 returns-then-place-ge-DAY c =
     let left = past c.args.room c.args.self.clock c.args.time c.args.flags c.args.place c.if-room-lt18.false c.if-time-gt-LAST_TIME.false c.if-time-self.false in
-    let fits = fit c.args.flags (omega arith) c.if-flags-ne0.false in
+    let fits = sym c.flags_fit.ensures ∙ c.if-not-flags_fit.false in
     rw (left, fits, le-leb day _ c.if-place-ge-DAY.true)
 
 pub returns : goal.returns
 returns c =
     let left = past c.args.room c.args.self.clock c.args.time c.args.flags c.args.place c.if-room-lt18.false c.if-time-gt-LAST_TIME.false c.if-time-self.false in
-    let fits = fit c.args.flags (omega arith) c.if-flags-ne0.false in
+    let fits = sym c.flags_fit.ensures ∙ c.if-not-flags_fit.false in
     rw (left, fits, lt-leb day _ c.if-place-ge-DAY.false)

@@ -6,7 +6,7 @@ use Rattle.report.proofs.entries.put_transcript.Goals as goal
 
 pub returns-then-not-is_record : goal.returns-then-not-is_record
 unfolding transcript
-returns-then-not-is_record c = let e = sym c.is_record.ensures ∙ c.if-not-is_record.true in rw e (adds c.line.ensures)
+returns-then-not-is_record c = let e = sym c.is_record.ensures ∙ c.if-not-is_record.true in rw e (rw (c.from.ensures, c.number.ensures) at (adds c.line.ensures))
 
 pub returns : goal.returns
 unfolding transcript

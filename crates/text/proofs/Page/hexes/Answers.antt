@@ -10,10 +10,10 @@ use Rattle.text.proofs.Hexadecimal.{hexes-more, hexes-around, hexes-long}
 use Rattle.text.proofs.Writing.{refused, adds, nothing, behind, stops, written}
 use Rattle.text.proofs.Page.hexes.Goals as goal
 
-pub returns-in_err-check_hex_room : goal.returns-in_err-check_hex_room
-returns-in_err-check_hex_room c =
+pub returns-in_err-check_parts : goal.returns-in_err-check_parts
+returns-in_err-check_parts c =
     let p = err_from_is_err_and c.from_residual.result c.from_residual.ensures.1 in
-    let e = c.in_err-check_hex_room.ensures in
+    let e = c.in_err-check_parts.ensures in
     rw (p.1, p.2) (refused _ (λ h. omega (arith, h, hexes-long c.args.bytes.now)) e.err e.fits.1)
 
 pub loop-byte-init : goal.loop-byte-init
@@ -35,7 +35,7 @@ returns-in_err-words c =
     let bytes = c.args.bytes.now in
     let i = c.loop-byte.byte-index in
     let b = get_or bytes i 0 in
-    let room = c.in_ok-check_hex_room.ensures.fits.0 refl in
+    let room = c.in_ok-check_parts.ensures.fits.0 refl in
     let w = rw (c.hex_digit.ensures, c.hex_digit-in-loop-byte.ensures, and_mask b 4) at c.words.ensures in
     written (rw (hexes-around bytes i c.loop-byte-test.true) (behind c.loop-byte.invariant (stops (adds w) c.in_err-words.was _ _)))
     (omega (arith, room, hexes-long bytes))
@@ -43,6 +43,6 @@ returns-in_err-words c =
 pub returns : goal.returns
 returns c =
     let bytes = c.args.bytes.now in
-    let room = c.in_ok-check_hex_room.ensures.fits.0 refl in
+    let room = c.in_ok-check_parts.ensures.fits.0 refl in
     written (rw (take_all c.loop-byte.byte-index bytes c.loop-byte-test.false) at c.loop-byte.invariant)
     (omega (arith, room, hexes-long bytes))
