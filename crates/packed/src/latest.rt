@@ -5,7 +5,7 @@ ghost use Rattle.packed.specs.Tail.{recent, kept};
 use super::Tail;
 
 impl Tail {
-    // No byte has come.
+    // No byte has come. No derived `default`, for the reason in `Packed::none`.
     pub fn none() -> Tail
         ensures { result ≡ kept [] }
     {

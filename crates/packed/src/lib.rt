@@ -32,7 +32,7 @@ fn byte_of(number: u64, at: usize) -> u8
 }
 
 impl Packed {
-    // No bytes.
+    // No bytes. A derived `default` would be no plainer: it says zeros, and no contract here would then say that these are no bytes.
     pub fn none() -> Packed
         ensures { result ≡ packed [] }
     {
