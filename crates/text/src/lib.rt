@@ -1,5 +1,5 @@
 // Texts put into a lent output, one behind the other: each public function puts its text behind the last one, or refuses the output
-// and writes nothing.
+// and writes nothing; `check_parts` only tells whether there is room.
 #![tactic(auto)]
 
 ghost use Rattle.std.specs.Prelude.{◌+◌, ◌*◌, ◌≤◌, ◌↔◌, length, IsOk, IsOkUnless};
