@@ -36,7 +36,8 @@ impl Deck {
     pub(super) fn hears(self, time: u64) -> bool
         ensures { result ≡ not (timed_out (view self) time) && not (in_quiet (view self) time) }
     {
-        self.free <= time && !self.timed_out(time)
+        // A speed bar: with `timed_out` here the marker takes a twentieth more instructions, with this sum there `byte` does.
+        self.free <= time && (self.held == 0 || time <= self.last.saturating_add(10000))
     }
 
     // A clean byte, whatever its content, fills the block.

@@ -20,7 +20,7 @@ use Rattle.deck.proofs.Steps.{look-found, look-nothing, byte-dropped}
 use Rattle.deck.proofs.Found.{byte-in-time}
 use Rattle.deck.proofs.Replies.{late-looked}
 use Rattle.deck.proofs.Numbers.{unrefused}
-use Rattle.deck.proofs.Joining.{allowed, joins-taken, joins-grows, joining-is, joining-fills, joins-deck, joins-answers, joining-made}
+use Rattle.deck.proofs.Joining.{allowed, joins-taken, joining-is, joining-fills, joins-deck, joins-answers, joining-made}
 use Rattle.deck.proofs.Filling.{fills-looked, fills-open, filling-is, striking-dropped, striking-heard}
 use Rattle.record.specs.declared.Entry.{Entry}
 use Rattle.record.specs.Entries.{formed, is_controller}

@@ -9,8 +9,8 @@ use Rattle.marker.specs.declared.Marker.{Marker}
 use Rattle.marker.specs.declared.Findings.{Findings}
 use Rattle.marker.specs.declared.Marked.{Marked}
 use Rattle.marker.specs.declared.reading.Reading.{Reading}
-use Rattle.marker.specs.declared.reading.Stop.{Stop}
-use Rattle.marker.specs.declared.reading.Stop.TheVariants.{Fills, Heavy, End}
+use Rattle.marker.specs.declared.reading.Ahead.{Ahead}
+use Rattle.marker.specs.declared.reading.Ahead.TheVariants.{Fills, Heavy, End}
 use Rattle.cursor.specs.Cursors.{taken_by, taken_at}
 use Rattle.marker.specs.Faults.{fault_or_0}
 use Rattle.marker.specs.Steps.{state, fills_block}
@@ -46,18 +46,18 @@ pub record Leads (bytes before table : List ℕ) (m : Marker) (count i : ℕ) : 
   pub leads : judge_from (drop i (entries_of bytes)) (state i (take count table) m) ≡ judge (entries_of bytes)
   pub rest : drop count table ≡ drop count before
 
--- where the entries stop: the cursor takes one, and it is known whether it fills the block; or there is none
-abbrev pub StopsAt : List ℕ → Reading → Stop → Type 0
-StopsAt bytes r (Fills t) = (taken_by r.place (Ok t) ≡ taken_at bytes r.place) × (fills_block r.marker t.entry ≡ true)
-StopsAt bytes r (Heavy t) = (taken_by r.place (Ok t) ≡ taken_at bytes r.place) × (fills_block r.marker t.entry ≡ false)
-StopsAt bytes r End = length bytes / 12 ≤ r.place
+-- what is ahead: the cursor takes an entry, and it is known whether it fills the block; or there is none
+abbrev pub Faces : List ℕ → Reading → Ahead → Type 0
+Faces bytes r (Fills t) = (taken_by r.place (Ok t) ≡ taken_at bytes r.place) × (fills_block r.marker t.entry ≡ true)
+Faces bytes r (Heavy t) = (taken_by r.place (Ok t) ≡ taken_at bytes r.place) × (fills_block r.marker t.entry ≡ false)
+Faces bytes r End = length bytes / 12 ≤ r.place
 
 -- from one reading to a later one: so far the entries lead to the verdict on the whole
-pub record Passes (bytes before : List ℕ) (from : Reading) (r : Reading × Stop) (after : List ℕ) : Type 0 where
+pub record Passes (bytes before : List ℕ) (from : Reading) (r : Reading × Ahead) (after : List ℕ) : Type 0 where
   pub leads : Leads bytes before after r.0.marker r.0.count r.0.place
   pub more : from.count ≤ r.0.count
   pub onward : from.place ≤ r.0.place
-  pub stop : StopsAt bytes r.0 r.1
+  pub ahead : Faces bytes r.0 r.1
 
 -- the entries one after the other; `before` and `after` are what the table holds
 pub record Runs (bytes before : List ℕ) (r : Marked) (after : List ℕ) : Type 0 where

@@ -25,12 +25,12 @@ impl Marker {
     {
         e.time <= LAST_TIME
             && self.deck.clock <= e.time
-            && self.deck.held == 0
             && e.time <= self.waits.latest
             && self
                 .waits
                 .next()
                 .is_some_and(|next| e.content == next as u32)
+            && self.deck.held == 0
     }
 
     // A deck byte.

@@ -16,9 +16,9 @@ struct Reading {
     count: usize,
 }
 
-// Where the light entries end: at an entry that fills the block, at another one, or with the record.
+// What is ahead where the light entries end: an entry that fills the block, another one, or the record's end.
 #[derive(Clone, Copy)]
-enum Stop {
+enum Ahead {
     Fills(Taken),
     Heavy(Taken),
     End,
@@ -63,18 +63,18 @@ impl Reading {
     // To the first entry that is not light, or to the end.
     // A speed bar: in one loop with `run` the marker takes a quarter longer. This one carries no settings, and a place and no cursor, which
     // holds the bytes too.
-    fn pass(mut self, bytes: &[u8], table: &mut [u32]) -> (Reading, Stop)
+    fn pass(mut self, bytes: &[u8], table: &mut [u32]) -> (Reading, Ahead)
         requires { Roomy bytes.now table.old × Leads bytes.now table.old table.old self.marker self.count self.place }
         ensures { Passes bytes.now table.old self result table.new }
     {
         while let Ok(taken) = cursor::take(bytes, self.place) {
             match self.marker.light(taken.entry) {
                 Weighed::Light(stepped) => self = self.on(stepped, taken.place, table),
-                Weighed::Fills => return (self, Stop::Fills(taken)),
-                Weighed::Heavy => return (self, Stop::Heavy(taken)),
+                Weighed::Fills => return (self, Ahead::Fills(taken)),
+                Weighed::Heavy => return (self, Ahead::Heavy(taken)),
             }
         }
-        (self, Stop::End)
+        (self, Ahead::End)
     }
 }
 
@@ -84,16 +84,16 @@ pub(super) fn run(bytes: &[u8], table: &mut [u32]) -> Findings
 {
     let mut reading = Reading::start();
     loop {
-        let (passed, stop) = reading.pass(bytes, table);
-        match stop {
-            Stop::Fills(taken) => {
+        let (passed, ahead) = reading.pass(bytes, table);
+        match ahead {
+            Ahead::Fills(taken) => {
                 reading = passed.on(passed.marker.fill(taken.entry), taken.place, table);
             }
-            Stop::Heavy(taken) => match passed.marker.other(taken.entry) {
+            Ahead::Heavy(taken) => match passed.marker.other(taken.entry) {
                 Ok(stepped) => reading = passed.on(stepped, taken.place, table),
                 Err(fault) => return passed.found(Some(fault)),
             },
-            Stop::End => return passed.found(passed.marker.ends().err()),
+            Ahead::End => return passed.found(passed.marker.ends().err()),
         }
     }
 }

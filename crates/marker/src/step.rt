@@ -14,6 +14,8 @@ use deck::{Answer, Joined};
 use record::{Entry, Kind};
 use refusal::Refusal;
 
+// `Timed` is a clause of four functions and no type: a marker that has been told the time would be made and taken apart in each, which is
+// no plainer.
 impl Marker {
     // The deck has answered.
     fn after(self, answer: Result<Answer, Refusal>, out: [u8; 24]) -> Marker

@@ -33,5 +33,5 @@ returns c =
       leads = v.0;
       more = v.1;
       onward = v.2;
-      stop = past _ _ _ c.in_default.ensures;
+      ahead = past _ _ _ c.in_default.ensures;
     }
