@@ -5,7 +5,7 @@ use mathlib.Core.Bool.{Bool, true, false, not, ◌&&◌, and_assoc, and-false, f
 use mathlib.Core.List.{List, [], ◌∷◌, ◌++◌}
 use native.Mathlib.Decide.{dec_lt}
 use native.Mathlib.Omega.{arith}
-use borrow.Author.Tests.{lt-ltb, le-ltb, le-leb, lt-leb, eq-eqb, ne_eqb, ltb-true, ltb-false, leb-true, not-true}
+use borrow.Author.Tests.{lt-ltb, le-ltb, le-leb, lt-leb, eq-eqb, ne_eqb, ltb-false, leb-true, not-true}
 use lib.Dec.{eqb, leb, ltb}
 use lib.ListN.{length}
 use Rattle.std.proofs.Common.{Result, Ok, Err}
@@ -48,14 +48,6 @@ pub heard-parts : (d : Held) (t : ℕ) → true ≡ not (timed_out (view d) t) &
 heard-parts d t h =
     let p = both_true (not (timed_out (view d) t)) _ (sym h) in
     (not-true (timed_out (view d) t) p.0, ltb-false t d.free (not-true (in_quiet (view d) t) p.1))
-
--- what grows does not fill
-pub grows-fills : (d : Held) (t b : ℕ) → grows (view d) t b ≡ true → fills (view d) t b ≡ false
-unfolding grows fills
-grows-fills d t b g =
-    let p = both_true (not (timed_out (view d) t)) _ g in
-    let q = both_true (not (in_quiet (view d) t)) _ p.1 in
-    rw (p.0, q.0, lt-leb (size ((view d).block ++ b ∷ [])) (length (view d).block + 1) (ltb-true _ _ q.1))
 
 -- ---- what a byte that fills the block has
 

@@ -1,21 +1,10 @@
 -- Time-out, as the code tests it.
-use Prim.Native.Nat.{ℕ, ◌+◌, ◌-◌, ◌<◌}
+use Prim.Native.Nat.{ℕ, ◌+◌, ◌<◌}
 use mathlib.Core.Bool.{Bool, true, false, ◌&&◌}
-use mathlib.Core.Path.{◌≡◌, refl, sym, ◌∙◌}
-use native.Mathlib.Decide.{dec_lt}
-use native.Mathlib.Omega.{arith}
-use borrow.Author.Tests.{lt-ltb, le-ltb, ltb-true}
-use lib.Dec.{ltb}
+use mathlib.Core.Path.{◌≡◌, refl}
+use borrow.Author.Tests.{ltb-true}
 use Rattle.execute.specs.Replies.{time_out}
 use Rattle.deck.specs.Line.{Deck, Answer, is_open, timed_out, voided}
-
-exceeds : (t last gap : ℕ) → Dec (last + gap < t) → ltb gap (t - last) ≡ ltb (last + gap) t
-exceeds t last gap (yes h) = lt-ltb gap (t - last) (omega arith) ∙ sym (lt-ltb (last + gap) t h)
-exceeds t last gap (no h) = le-ltb gap (t - last) (omega arith) ∙ sym (le-ltb (last + gap) t (omega arith))
-
--- the difference is tested in place of the sum
-pub past : (t last gap : ℕ) → ltb gap (t - last) ≡ ltb (last + gap) t
-past t last gap = exceeds t last gap (dec_lt (last + gap) t)
 
 pub both_true : (a b : Bool) → a && b ≡ true → (a ≡ true) × (b ≡ true)
 both_true true b e = (refl, e)

@@ -20,10 +20,6 @@ use Rattle.deck.proofs.Held.{length-open, one_more}
 pub made-new : Made new_deck
 made-new = record { few = omega arith; head = refl; rest = refl }
 
--- with no block held
-pub made-shut : (d : Held) → d.held ≡ 0 → d.first ≡ 0 → d.tail ≡ kept [] → Made d
-made-shut d h f t = record { few = omega arith; head = rw h f; rest = rw h t }
-
 -- the times and the settings are nothing to it
 pub made_so : (d e : Held) → e.held ≡ d.held → e.first ≡ d.first → e.tail ≡ d.tail → Made d → Made e
 made_so d e h f t m = record { few = rw h m.few; head = rw (h, f, t) m.head; rest = rw (h, f, t) m.rest }

@@ -28,10 +28,6 @@ pub front-some : (l : List ℕ) → some l ≡ true → Some (get_or l 0 0) ≡ 
 front-some [] p = cc
 front-some (b ∷ l) p = refl
 
-pub none-next : (l : List ℕ) → None ≡ front l → some l ≡ false
-none-next [] p = refl
-none-next (b ∷ l) p = cc
-
 pub some-next : (l : List ℕ) (b : ℕ) → Some b ≡ front l → (some l ≡ true) × (b ≡ get_or l 0 0)
 some-next [] b p = cc
 some-next (c ∷ l) b p = (refl, cc)

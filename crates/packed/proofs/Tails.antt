@@ -3,7 +3,7 @@ use Prim.Native.Nat.{ℕ, zero, suc, ◌+◌, ◌-◌, ◌*◌, ◌/◌, ◌%◌
 use mathlib.Core.Path.{◌≡◌, refl, sym, ap, ◌∙◌, subst}
 use mathlib.Core.List.{List, [], ◌∷◌, ◌++◌}
 use native.Mathlib.Decide.{dec_lt}
-use native.Mathlib.Nat.{mod-lt, zero-add}
+use native.Mathlib.Nat.{zero-add}
 use native.Mathlib.Omega.{arith}
 use lib.Bits.{bit_or}
 use lib.ListN.{length, take, get_or, length-append, get_or-append, get_or-eq_default}
@@ -18,15 +18,9 @@ use Rattle.packed.proofs.Packing.{at_next, part_at}
 
 -- ---- a byte comes
 
--- the highest byte, and what it is added to
+-- the highest byte
 top_byte : (v : ℕ) → v < 256 ^ 8 → v / 256 ^ 7 < 256
 top_byte v h = omega arith
-
-under_top : (v c : ℕ) → c < 256 → v % 256 ^ 7 * 256 + c < 256 ^ 8
-under_top v c h = let m : v % 256 ^ 7 < 256 ^ 7 = mod-lt v (omega arith) in omega (arith, m)
-
-pub push-fits : (v w : ℕ) → w < 256 ^ 8 → v % 256 ^ 7 * 256 + w / 256 ^ 7 < 256 ^ 8
-push-fits v w h = under_top v (w / 256 ^ 7) (top_byte w h)
 
 module _ (t : Tail) (b : ℕ) where
   -- the bytes that stay low
