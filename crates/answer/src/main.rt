@@ -26,7 +26,8 @@ fn blank() -> [u8; ROOM] {
 }
 
 // Of a record that is longer than the buffer 65,536 bytes are read: too many, so it is refused all the same.
-// This and `main` stay in each of three programs: room, what fills it, use and name are nearly all there is, so one for all is no plainer.
+// This and `main` stay in each of three programs: room, what fills it, the usage line and the name are nearly all there is, so that one for
+// all is no plainer.
 fn run(rt: &HostRuntime) -> Result<(), Failure> {
     let mut buf = [0; 65536];
     let count = program::read(rt, &mut rt.stdin(), &mut buf, "answer < RECORD")?;

@@ -10,7 +10,7 @@ use program::Failure;
 use text::Page;
 
 // What is written for these bytes, at the front of the output; returns its length. No heap: the text lies in a lent buffer, and its
-// length is what is printed of it. A refusal has at most 29 bytes, on a page that is made and its end told here: `report` says why.
+// length is what is printed of it. A refusal has at most 29 bytes, on a page that is made here: `report` says why.
 fn answer(bytes: &[u8], out: &mut [u8]) -> usize
     requires { room_for bytes.now + 29 ≤ length out.old }
     ensures prefix_len { IsPrefixLen result out.new }
@@ -28,7 +28,8 @@ fn answer(bytes: &[u8], out: &mut [u8]) -> usize
 
 // Of more than the buffer holds 65,536 bytes are read: too many, so they are refused all the same. The output has room for the
 // longest completed record, 7 times as many, or a refusal.
-// This and `main` stay in each of three programs: room, what fills it, use and name are nearly all there is, so one for all is no plainer.
+// This and `main` stay in each of three programs: room, what fills it, the usage line and the name are nearly all there is, so that one for
+// all is no plainer.
 fn run(rt: &HostRuntime) -> Result<(), Failure> {
     let mut buf = [0; 65536];
     let count = program::read(rt, &mut rt.stdin(), &mut buf, "complete < EXERCISE")?;

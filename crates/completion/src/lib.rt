@@ -51,7 +51,8 @@ fn refusal(bytes: &[u8], room: usize) -> Result<(), Refusal>
     Ok(())
 }
 
-// The record with the deck's replies put in, at the front of the output. The page is made and its end told here: `report` says why.
+// The record with the deck's replies put in, at the front of the output. The page is made and its end handed back here:
+// `report` says why.
 pub fn complete(bytes: &[u8], out: &mut [u8]) -> Result<usize, Refusal>
     ensures answer { written_by result ≡ written bytes.now out.old }
     ensures output { out.new ≡ written_out bytes.now out.old }

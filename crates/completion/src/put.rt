@@ -46,7 +46,7 @@ fn put_both(page: &mut Page<'_>, e: Entry, due: u64, bytes: &[u8]) -> Result<(),
     put_entry(page, e)
 }
 
-// An entry and the replies to it, whose bytes stand at the front of these.
+// An entry and the replies to it, whose bytes stand at the front of these, and are split here as in `report`, which says why.
 fn put_answer(page: &mut Page<'_>, e: Entry, answer: &Answer, bytes: &[u8]) -> Result<(), Refusal>
     requires { len_of answer.now.first + len_of answer.now.second ≤ length bytes.now }
     ensures { Adds page.old (record_of (with_answer e answer.now.first answer.now.second bytes.now)) page.new result }

@@ -8,7 +8,7 @@ ghost use Rattle.cursor.specs.Cursors.{standing, entries_left, Moves, taken_by, 
 use record::Entry;
 use refusal::Refusal;
 
-// The record, and the number of an entry.
+// The record, and the number of an entry: the form that the papers name.
 #[derive(Drop)]
 pub struct Cursor<'a> {
     bytes: &'a [u8],
@@ -46,7 +46,8 @@ impl<'a> Iterator for Cursor<'a> {
     }
 }
 
-// The entry at this place, read through a cursor, and where the cursor stands then. Whoever calls it needs no walk.
+// The entry at this place, read through a cursor, and where the cursor stands then: for who keeps the place and no cursor, as the marker's
+// loops do.
 pub fn take(bytes: &[u8], place: usize) -> Result<Taken, Refusal>
     ensures { taken_by place result ≡ taken_at bytes.now place }
 {

@@ -6,7 +6,7 @@ use Rattle.refusal.specs.Numbers.{number_of}
 use Rattle.packed.specs.Tail.{recent, kept}
 use Rattle.deck.specs.declared.Deck.{Deck as Held}
 use Rattle.deck.specs.declared.Joined.{Joined}
-use Rattle.deck.specs.declared.Joined.TheVariants.{Taken, Fills, Other}
+use Rattle.deck.specs.declared.Joined.TheVariants.{Grown, Fills, Other}
 use Rattle.deck.specs.Line.{Event, Deck, timed_out, in_quiet, size}
 use Rattle.deck.specs.Calls.{refusal, number, told, view, Returned, Answers}
 
@@ -67,7 +67,7 @@ pub record Tried : Type 0 where
 
 -- 0 where the call is taken; a deck that takes nothing is the caller's own
 abbrev pub tried : Held → Result Joined Refusal → Tried
-tried d (Ok (Taken e)) = record { no = 0; taken = true; fills = false; deck = e }
+tried d (Ok (Grown e)) = record { no = 0; taken = true; fills = false; deck = e }
 tried d (Ok Fills) = record { no = 0; taken = false; fills = true; deck = d }
 tried d (Ok Other) = record { no = 0; taken = false; fills = false; deck = d }
 tried d (Err e) = record { no = number_of e; taken = false; fills = false; deck = d }

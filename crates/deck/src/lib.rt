@@ -17,8 +17,8 @@ mod line;
 // The latest time that a call takes.
 pub const LAST_TIME: u64 = 281474976710655;
 
-// The open block has `held` bytes: `first`, and the latest of `tail`. A byte at a time below `free` is in quiet. A speed bar: the block is
-// no array with its length, which would be copied at each call.
+// The open block has `held` bytes, and is none where that is 0: `first`, and the latest of `tail`. A byte at a time below `free` is in
+// quiet. A speed bar: the block is no array with its length, which would be copied at each call, and `first` no `u8`, which leaves a gap.
 #[derive(Clone, Copy)]
 pub struct Deck {
     pub clock: u64,
@@ -30,14 +30,15 @@ pub struct Deck {
     pub settings: Settings,
 }
 
-// A reply in the output: its length and its due time.
+// A reply in the output: its length and its due time. What may not change: the replies' bytes stand in the lent output, one after the other
+// (`Call`), so that whoever reads them takes them off its front.
 #[derive(Clone, Copy)]
 pub struct Sent {
     pub len: usize,
     pub due: u64,
 }
 
-// The deck, and the replies that stand at the front of the output, one after the other. Where there is one, it is the first.
+// The deck, and the replies that stand at the front of the output. Where there is one, it is the first. No heap: two, and no list.
 #[derive(Clone, Copy)]
 pub struct Answer {
     pub deck: Deck,
@@ -48,7 +49,7 @@ pub struct Answer {
 // What comes of a byte that is to join the open block: it is taken, and this is the deck; or it fills the block, or neither.
 #[derive(Clone, Copy)]
 pub enum Joined {
-    Taken(Deck),
+    Grown(Deck),
     Fills,
     Other,
 }
@@ -68,6 +69,7 @@ impl Deck {
         }
     }
 
+    // Time, content and flags stand apart, here and below, as in the event of the papers (`byte` in specs/Line.antt).
     pub fn byte(
         mut self,
         time: u64,
@@ -97,7 +99,7 @@ impl Deck {
             return Ok(Joined::Fills);
         }
         self.clock = time;
-        Ok(Joined::Taken(self.grown(time, content)))
+        Ok(Joined::Grown(self.grown(time, content)))
     }
 
     // A clean byte that is heard, finds no time-out and fills the block: what `byte` does. Any other changes nothing.
@@ -134,8 +136,8 @@ impl Deck {
         Ok(self.looked(time, out))
     }
 
-    // `position` and `cassette` are alike but for the change, and the first two lines of each call are its tests and its time: a function
-    // for both would take the change as a closure, with a contract over it, and be no plainer.
+    // `position` and `cassette` are alike but for the change: a function for both would take it as a closure, with a contract over it, and
+    // be no plainer. Each call begins with its tests and sets the clock then: `join`, `fill` and `strike` test more between the two.
     pub fn position(mut self, time: u64, place: u32, out: &mut [u8]) -> Result<Answer, Refusal>
         ensures { Answers self (position time place) out.old (returned self result) out.new }
     {

@@ -1,4 +1,4 @@
-// Why a call is refused.
+// The tests of the deck's calls.
 ghost use Rattle.std.specs.Prelude.{◌≡◌};
 ghost use Rattle.refusal.specs.Numbers.{no_of};
 ghost use Rattle.deck.specs.Calls.{flags_fit, refusal};
@@ -16,7 +16,8 @@ pub fn flags_fit(flags: u8) -> bool
 }
 
 impl Deck {
-    // The tests of a call, in document 01's order: an output with so much room, a time, flags and a position.
+    // In document 01's order: an output with so much room, a time, flags and a position, which are 0 where the event has none. What may not
+    // change: `refusal` takes all of them.
     pub(super) fn check(self, room: usize, time: u64, flags: u8, place: u32) -> Result<(), Refusal>
         ensures { no_of result ≡ refusal room self.clock time flags place }
     {

@@ -1,5 +1,5 @@
-// The line: time-out, quiet and the open block. Every function here comes after the tests of a call. What five of them ask for, `Admitted`,
-// is a clause: a type of the time and the lent output that keeps it would be no plainer, made once and taken apart in each.
+// The line: time-out, quiet and the open block. Every function here is called after the tests of a call. What five of them ask for,
+// `Admitted`, is a clause: a type of the time and the lent output that keeps it would be no plainer, made once and taken apart in each.
 ghost use Rattle.std.specs.Prelude.{◌≡◌, ℕ, true, not, ◌&&◌, [], ◌∷◌, ◌++◌, ◌+◌, ◌≤◌, ◌<◌, ◌^◌, leb, length};
 ghost use Rattle.std.specs.Prelude.{None};
 ghost use Rattle.execute.specs.Execute.{execute};
@@ -11,7 +11,7 @@ use super::{Answer, Deck, Sent};
 use execute::FullBlock;
 use packed::Tail;
 
-// A number: what may not change, `execute::nak` takes any byte, the flags of the line among them.
+// A number. What may not change: `execute::nak` takes any byte, the flags of the line among them.
 const TIME_OUT: u8 = 0x80;
 
 impl Deck {
@@ -36,7 +36,7 @@ impl Deck {
     pub(super) fn hears(self, time: u64) -> bool
         ensures { result ≡ not (timed_out (view self) time) && not (in_quiet (view self) time) }
     {
-        // A speed bar: with `timed_out` here the marker takes a twentieth more instructions, with this sum there `byte` does.
+        // A speed bar: with `timed_out` here the marker takes a twentieth more instructions; with this sum in `timed_out`, `byte` does.
         self.free <= time && (self.held == 0 || time <= self.last.saturating_add(10000))
     }
 
@@ -47,7 +47,7 @@ impl Deck {
         (self.first % 16) as usize + 1 < self.held
     }
 
-    // No block is open after a reply, which may open a quiet.
+    // No block is open after a reply, which may open a quiet: a flag beside its time, as each reply has them (`free_after`).
     fn closed(mut self, quiets: bool, due: u64) -> Deck
         requires { due < 2 ^ 63 }
         ensures { (view result ≡ deck [] self.last (free_after quiets due self.free) self.settings) × (result.clock ≡ self.clock)
@@ -160,7 +160,8 @@ impl Deck {
         self.clean(time, content, out)
     }
 
-    // A byte that finds the time-out: it is in the quiet of the NAK, or gets a NAK of its own, or begins a block.
+    // A byte that finds the time-out: it is in the quiet of the NAK, or gets a NAK of its own, or begins a block. Not by `heard`, which
+    // asks for 18 bytes of output: behind the NAK there may be 14.
     pub(super) fn late(self, time: u64, content: u8, flags: u8, out: &mut [u8]) -> Answer
         requires { (timed_out (view self) time ≡ true) × Admitted time out.old }
         ensures { Comes self (answers (view self) (byte time content flags)) out.old result out.new }

@@ -41,6 +41,7 @@ fn move_tape(motion: Motion, s: Settings, data: &[u8]) -> Settings
     match motion {
         Motion::Run(mode, speed) => start(s, mode, speed),
         Motion::Vary(mode, direction) => {
+            // `speed` takes a flag.
             let reverse = direction == Direction::Reverse;
             start(s, mode, speed::speed(first(data), reverse))
         }

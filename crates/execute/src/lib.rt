@@ -43,7 +43,7 @@ pub struct FullBlock {
     pub last: u8,
 }
 
-// The settings, the length of the reply, and whether it opens a quiet.
+// The settings, the length of the reply, whose bytes lie in the lent output, and whether it opens a quiet.
 #[derive(Clone, Copy, Debug, PartialEq, Eq)]
 pub struct Executed {
     pub settings: Settings,
@@ -51,7 +51,7 @@ pub struct Executed {
     pub quiets: bool,
 }
 
-// Whether the NAK with this byte opens a quiet: each does.
+// Whether the NAK with this byte, which may be any, opens a quiet: each does.
 #[tactic(auto, unfolding(crate::specs::Replies::opens_quiet))]
 pub fn opens_quiet(_why: u8) -> bool
     ensures { result ≡ opens_quiet _why }

@@ -2,7 +2,7 @@
 ghost use Rattle.std.specs.Prelude.{◌≡◌};
 ghost use Rattle.marker.specs.Faults.{fault_number};
 
-// In the order of their numbers, which `number` tells, as a refusal's does.
+// In the order of their numbers, which `number` tells: by a cast, as in `Refusal::number`.
 #[derive(Clone, Copy, Debug, PartialEq, Eq)]
 pub enum Fault {
     Malformed = 20,

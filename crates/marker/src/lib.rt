@@ -19,8 +19,8 @@ mod reading;
 mod reply;
 mod step;
 
-// The bytes of a reply that are still to come are the first `left` of `reply`; none is to come later than `latest`. A speed bar: they are
-// numbers with a count, since an array would be copied from place to place.
+// The bytes of a reply that are still to come are the first `left` of `reply`, none where that is 0; none is to come later than `latest`. A
+// speed bar: they are numbers with a count, since an array would be copied from place to place.
 #[derive(Clone, Copy)]
 pub struct Waits {
     pub reply: Packed,
@@ -43,7 +43,7 @@ pub struct Stepped {
 }
 
 // What is found in a record: its fault, if it has one; the fault's place, or else the number of entries; and how many turn starts
-// stand at the front of the table.
+// stand at the front of the table, which is lent: no heap.
 #[derive(Clone, Copy, Debug, PartialEq, Eq)]
 pub struct Findings {
     pub fault: Option<Fault>,

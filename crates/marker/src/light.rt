@@ -1,4 +1,4 @@
-// Light entries: they give no reply and break no rule. Most entries of a record are such, and their loop carries no settings.
+// Light entries: they give no reply and break no rule. Most entries of a record are such, and their loop, compiled, carries no settings.
 ghost use Rattle.std.specs.Prelude.{◌≡◌, true};
 ghost use Rattle.marker.specs.Steps.{Expected, Weighs};
 
@@ -58,7 +58,7 @@ impl Marker {
             return Weighed::Heavy;
         }
         match self.deck.join(e.time, e.content as u8) {
-            Ok(Joined::Taken(deck)) => Weighed::Light(Stepped {
+            Ok(Joined::Grown(deck)) => Weighed::Light(Stepped {
                 begins: self.deck.held == 0,
                 marker: Marker { deck, ..self },
             }),

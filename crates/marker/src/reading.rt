@@ -38,7 +38,8 @@ impl Reading {
     // The entry has been taken, and the next is at `after`.
     fn on(mut self, stepped: Stepped, after: usize, table: &mut [u32]) -> Reading
         requires { (self.place < 2 ^ 32) × (self.count < length table.old) }
-        ensures reading { result ≡ record { marker = stepped.marker; place = after; count = cond stepped.begins (self.count + 1) self.count } }
+        ensures reading { result
+            ≡ record { marker = stepped.marker; place = after; count = cond stepped.begins (self.count + 1) self.count } }
         ensures table { table.new ≡ cond stepped.begins (set table.old self.count self.place) table.old }
     {
         if stepped.begins {

@@ -14,8 +14,8 @@ use deck::{Answer, Joined};
 use record::{Entry, Kind};
 use refusal::Refusal;
 
-// `Timed` is a clause of four functions and no type: a marker that has been told the time would be made and taken apart in each, which is
-// no plainer.
+// `Timed`, and a time below 2^48, are clauses and no types: a marker that has been told the time would be no plainer, made in `other` and
+// taken apart in each.
 impl Marker {
     // The deck has answered.
     fn after(self, answer: Result<Answer, Refusal>, out: [u8; 24]) -> Marker
@@ -31,7 +31,7 @@ impl Marker {
     }
 
     // The deck is told the time: it may find a time-out.
-    // With `moved` and `loaded` as one function over a closure, each would still be the closure that names the deck's method.
+    // With `moved`, `loaded` and `fill` as one function over a closure, each would still be the closure that names the deck's method.
     fn look(self, time: u64) -> Marker
         requires { (self.deck.clock ≤ time) × (time < 2 ^ 48) }
         ensures { Acts self time (looked (view self.deck) time) result }
@@ -52,7 +52,7 @@ impl Marker {
             return self.after(self.deck.strike(time, flags, &mut out), out);
         }
         match self.deck.join(time, content) {
-            Ok(Joined::Taken(deck)) => Marker { deck, ..self },
+            Ok(Joined::Grown(deck)) => Marker { deck, ..self },
             _ => self,
         }
     }

@@ -7,7 +7,8 @@ ghost use Rattle.packed.specs.Packed.{unpacked, packed};
 
 mod latest;
 
-// 24 bytes, lowest first: eight in each number.
+// 24 bytes, lowest first: eight in each number. `Tail` is a type of its own: over an array of numbers both would be what this crate is
+// there to avoid.
 #[derive(Clone, Copy)]
 pub struct Packed {
     pub low: u64,
@@ -22,7 +23,7 @@ pub struct Tail {
     pub high: u64,
 }
 
-// The byte at a place.
+// The byte at a place, by a shift: `to_le_bytes` and an index would make an array of it first.
 #[tactic(auto, using(crate::proofs::Numbers::masks))]
 fn byte_of(number: u64, at: usize) -> u8
     requires { at < 8 }
@@ -73,7 +74,7 @@ impl Packed {
         }
     }
 
-    // The same of the lowest eight alone: the others stay.
+    // The same of the lowest eight alone: the others stay. A speed bar: to move all three each time is slower than to look the byte up.
     pub fn low_rest(self) -> Packed
         ensures { result ≡ record { low = self.low / 256; mid = self.mid; high = self.high } }
     {

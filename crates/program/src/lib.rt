@@ -17,8 +17,9 @@ pub enum Failure {
     Write,
 }
 
-// Reads all of the input, or as much of it as there is space for. A name given as an argument would be passed over, and an empty
-// standard input taken in its place; and a terminal can go on behind an end.
+// Reads all of the input, or as much of it as there is space for, and hands back the count and not that part, since `argument` speaks of
+// all of the space. A name given as an argument would be passed over, and an empty standard input taken in its place. A read at the end is
+// tried once more: a terminal can go on behind one.
 pub fn read<R: Read>(
     rt: &impl Env,
     input: &mut R,

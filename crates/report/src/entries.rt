@@ -13,7 +13,8 @@ use record::Entry;
 use refusal::Refusal;
 use text::Page;
 
-// A reply, if there is one, that stands at the front of these bytes.
+// A reply, if there is one, that stands at the front of these bytes. That they are as many is a clause, as in `put_answer`: a reply with
+// its bytes as a type would be made where these split them, and be no plainer.
 fn put_sent(page: &mut Page<'_>, sent: Option<Sent>, bytes: &[u8]) -> Result<(), Refusal>
     requires { len_of sent ≤ length bytes.now }
     ensures { Adds page.old (sent_line sent bytes.now) page.new result }

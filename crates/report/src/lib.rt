@@ -15,8 +15,8 @@ mod entries;
 mod standing;
 mod verdict;
 
-// The text of a verdict. A page is made, filled and its end told here, in `transcript`, in `completion` and in the program `complete`: one
-// function for the four would take a closure that puts the text, and a contract over closures is no plainer.
+// The text of a verdict. A page is made, filled and its end handed back here, in `transcript`, in `completion` and in the program
+// `complete`: one function for the four would take a closure that puts the text, and a contract over closures is no plainer.
 pub fn text(marked: Marked, starts: &[u32], out: &mut [u8]) -> Result<usize, Refusal>
     ensures answer { written_by result ≡ written_in (room_for starts.now) (text_of marked starts.now) out.old }
     ensures output { out.new

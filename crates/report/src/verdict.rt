@@ -15,7 +15,7 @@ fn put_turns(page: &mut Page<'_>, starts: &[u32]) -> Result<(), Refusal>
     Ok(())
 }
 
-// Numbers in place of an enum, and so in `put_text`: what may not change, `report::text` takes any of them, also those of no verdict.
+// Numbers in place of an enum, and so in `put_text`. What may not change: `report::text` takes any of them, also those of no verdict.
 fn put_verdict(page: &mut Page<'_>, marked: Marked) -> Result<(), Refusal>
     ensures { Adds page.old (verdict_line marked) page.new result }
 {

@@ -7,6 +7,7 @@ ghost use Rattle.settings.specs.Status.{status_bytes};
 
 mod bits;
 
+// `NoMode` is a mode of the papers, the one that eject leaves.
 #[derive(Clone, Copy, Debug, PartialEq, Eq)]
 pub enum Mode {
     NoMode,

@@ -40,7 +40,7 @@ fn forward(n: u8) -> i32
     (root * tens(n / 32) / 268435456) as i32
 }
 
-// The flag is no `Direction`: that stands with the commands, above this leaf.
+// The way is a flag. What may not change: the contract has it so (`signed`).
 #[tactic(auto, using(crate::proofs::Rule::rule, crate::proofs::Rule::small))]
 pub fn speed(n: u8, reverse: bool) -> i32
     ensures { (result ≡ signed reverse (speed_of n)) × IsSpeed n (speed_of n) }
@@ -49,7 +49,7 @@ pub fn speed(n: u8, reverse: bool) -> i32
     if reverse { -v } else { v }
 }
 
-// In 64 bits, as what is printed is.
+// In 64 bits, as what is printed is. It is std's now, and stays: what may not change, a public function.
 pub fn size(v: i32) -> u64
     ensures { result ≡ nat_abs v }
 {

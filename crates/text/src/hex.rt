@@ -6,7 +6,7 @@ ghost use Rattle.text.specs.Writes.{Writes};
 use super::Page;
 use refusal::Refusal;
 
-// By hand: std's `{:02X}` writes to a Formatter and not to a lent output, so that it would be no plainer.
+// By hand: for `{:02X}` a page would have to be a `fmt::Write`, which is more than this line and no plainer.
 fn hex_digit(n: u8) -> u8
     requires { n < 16 }
     ensures { result ≡ hex_digit n }

@@ -10,8 +10,8 @@ use refusal::Refusal;
 mod hex;
 mod numbers;
 
-// A lent output, and the place in it for the next text, any place. What may not change: a text that is refused leaves place and output, so
-// that the rest of a slice would not do.
+// A lent output, and the place in it for the next text, any place. What may not change: `Writes` says where a text ends, and callers hand
+// that out as the length.
 #[derive(Drop)]
 pub struct Page<'a> {
     pub out: &'a mut [u8],

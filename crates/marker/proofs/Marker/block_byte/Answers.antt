@@ -2,7 +2,7 @@
 use mathlib.Core.Path.{refl, sym, ap, ◌∙◌}
 use native.Mathlib.Omega.{arith}
 use Rattle.std.specs.Prelude.{Ok}
-use Rattle.deck.specs.declared.Joined.TheVariants.{Taken, Fills}
+use Rattle.deck.specs.declared.Joined.TheVariants.{Grown, Fills}
 use Rattle.deck.specs.Joins.{tried}
 use Rattle.marker.proofs.Passing.{joins-so}
 use Rattle.marker.proofs.Filled.{unfilled-content, unfilled-waits, joined-fills}
@@ -16,12 +16,12 @@ returns-then-e-gt255 c =
       | then-e-gt255-via-else-e-gt255+then-any w ↦ unfilled-waits c.args.self c.args.e (sym w.any.ensures ∙ w.if-any.true)
     ]
 
-pub returns-in-Ok-Taken : goal.returns-in-Ok-Taken
-returns-in-Ok-Taken c =
+pub returns-in-Ok-Grown : goal.returns-in-Ok-Grown
+returns-in-Ok-Grown c =
     let a = c.args in
     let none = sym c.any.ensures ∙ c.if-any.false in
-    let j = tried a.self.deck (Ok (Taken c.in-Ok-Taken.deck)) in
-    let p = ap (tried a.self.deck) (sym (ap Ok c.in-Ok-Taken.field-0-is) ∙ sym c.in-Ok-Taken.is) ∙ c.join.ensures in (
+    let j = tried a.self.deck (Ok (Grown c.in-Ok-Grown.deck)) in
+    let p = ap (tried a.self.deck) (sym (ap Ok c.in-Ok-Grown.field-0-is) ∙ sym c.in-Ok-Grown.is) ∙ c.join.ensures in (
       joins-so a.self a.e c.requires.1 c.requires.0 (omega (arith, c.if-e-gt255.false)) none j p refl,
       joined-fills a.self a.e c.requires.0 c.requires.1 (omega (arith, c.if-e-gt255.false)) none j p,
     )

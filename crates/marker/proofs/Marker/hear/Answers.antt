@@ -2,7 +2,7 @@
 use mathlib.Core.Path.{sym, ap, ◌∙◌}
 use native.Mathlib.Omega.{arith}
 use Rattle.std.specs.Prelude.{Ok}
-use Rattle.deck.specs.declared.Joined.TheVariants.{Taken}
+use Rattle.deck.specs.declared.Joined.TheVariants.{Grown}
 use Rattle.deck.specs.Joins.{tried}
 use Rattle.marker.proofs.Filled.{asked-strike, joined-so, kept}
 use Rattle.marker.proofs.Marker.hear.Goals as goal
@@ -19,12 +19,12 @@ returns-then-flags-ne0 c =
     (asked-strike a.self a.time a.content a.flags c.requires.timed c.requires.fit c.if-flags-ne0.true (omega arith)
     (c.strike.ensures a.content)).acts c.after.result c.after.ensures.deck c.after.ensures.waits
 
-pub returns-in-Ok-Taken : goal.returns-in-Ok-Taken
-returns-in-Ok-Taken c =
+pub returns-in-Ok-Grown : goal.returns-in-Ok-Grown
+returns-in-Ok-Grown c =
     let a = c.args in
     rw c.if-flags-ne0.false
     (joined-so a.self a.time a.content c.requires.timed (c.requires.unfilled c.if-flags-ne0.false) (omega arith)
-    (tried a.self.deck (Ok (Taken c.in-Ok-Taken.deck))) (ap (tried a.self.deck) (sym (ap Ok c.in-Ok-Taken.field-0-is) ∙ sym c.in-Ok-Taken.is) ∙ c.join.ensures))
+    (tried a.self.deck (Ok (Grown c.in-Ok-Grown.deck))) (ap (tried a.self.deck) (sym (ap Ok c.in-Ok-Grown.field-0-is) ∙ sym c.in-Ok-Grown.is) ∙ c.join.ensures))
 
 pub returns-in_default : goal.returns-in_default
 returns-in_default c =
