@@ -47,10 +47,11 @@ impl Packed {
     pub fn pack(b: [u8; 24]) -> Packed
         ensures { result ≡ packed b }
     {
+        let (parts, _) = b.as_chunks();
         Packed {
-            low: u64::from_le_bytes([b[0], b[1], b[2], b[3], b[4], b[5], b[6], b[7]]),
-            mid: u64::from_le_bytes([b[8], b[9], b[10], b[11], b[12], b[13], b[14], b[15]]),
-            high: u64::from_le_bytes([b[16], b[17], b[18], b[19], b[20], b[21], b[22], b[23]]),
+            low: u64::from_le_bytes(parts[0]),
+            mid: u64::from_le_bytes(parts[1]),
+            high: u64::from_le_bytes(parts[2]),
         }
     }
 
