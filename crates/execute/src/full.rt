@@ -53,7 +53,7 @@ impl FullBlock {
         ensures { why_of result
             ≡ (if nat_eq (read_no (block_in self)) 0 then undefined else bad_checksum) }
     {
-        // The tail keeps sixteen; of fewer this is the test of the call, in one line there too.
+        // Of a longer block the sixteen that the tail keeps. `run` has the same test: a function for both would be no shorter.
         let count = self.count.min(16);
         if count != usize::from(self.first & 15) + 1 {
             return Why::Checksum;

@@ -14,8 +14,8 @@ use deck::{Answer, Joined};
 use record::{Entry, Kind};
 use refusal::Refusal;
 
-// `Timed`, and a time below 2^48 (in reply.rt too), are clauses and no types: a marker that has been told the time would be no plainer, made in `other` and
-// taken apart in each.
+// `Timed`, and a time below 2^48 (in reply.rt too), are clauses and no types: a marker that has been told the time would be no plainer,
+// made in `other` and taken apart in each.
 impl Marker {
     // The deck has answered.
     fn after(self, answer: Result<Answer, Refusal>, out: [u8; 24]) -> Marker
