@@ -1,17 +1,40 @@
 // What the test programs share: how they read their cases, and how they tell what a call did.
 #![tactic(auto)]
 
-ghost use Rattle.std.specs.Prelude.{◌≡◌, slice_index};
+ghost use Rattle.std.specs.Prelude.{◌≡◌, ◌<◌, ℕ, List, IfSome, IfNone, length, slice_index, take};
 ghost use Rattle.std.specs.List.{list_all};
 ghost use Rattle.std.specs.Result.{result_unwrap_or};
+ghost use Rattle.std.specs.Io.KnownBytes.{Consumes};
 ghost use Rattle.refusal.specs.Numbers.{no_of};
 ghost use Rattle.cases.specs.First.{first_four};
 
 use refusal::Refusal;
 use std::array;
+use std::io::Read;
 
 // No input has so many cases: the bound is there for the loop to end.
 pub const MOST: u32 = 1000000;
+
+// What a lent output holds before a call.
+pub const BLANK: u8 = 0xAA;
+
+// The next four bytes of the input as a size, lowest byte first, or none where it has too few or a read fails.
+pub fn size<R: Read>(input: &mut R) -> Option<usize>
+    ensures known { IfSome result (λ size. (bytes : List ℕ) × (length bytes ≡ 4) × (size ≡ first_four bytes)
+        × Consumes (R.remaining input.old) (R.remaining input.new) bytes) }
+    ensures short { IfNone result ((bytes : List ℕ) × (length bytes < 4) × Consumes (R.remaining input.old) (R.remaining input.new) bytes) }
+{
+    let bytes = streams::read_array::<_, 4>(input)?;
+    Some(number(&bytes) as usize)
+}
+
+// The first `size` elements, or all of them where there are fewer.
+pub fn first<T>(space: &mut [T], size: usize) -> &mut [T]
+    ensures { result.now ≡ take size space.old }
+{
+    let size = size.min(space.len());
+    &mut space[..size]
+}
 
 // The byte at `at`, and 0 past the end.
 pub fn byte(args: &[u8], at: usize) -> u8
@@ -39,7 +62,8 @@ pub fn numbered<T: Drop>(answer: Result<T, Refusal>, none: T) -> (u8, T)
     }
 }
 
-// Whether what is left of a lent buffer is as it was lent: each element is `fill`.
+// Whether what is left of a lent buffer is as it was lent: each element is `fill`. Where it is not, each program prints `touched` itself:
+// a function that prints has a contract that says nothing of what it prints.
 pub fn untouched<T: Copy + PartialEq>(rest: &[T], fill: T) -> bool
     ensures { result ≡ list_all (λ x. T.eq x fill) rest.now }
 {

@@ -8,26 +8,22 @@ mod show;
 
 use std::io::Read;
 
-// The first `size` bytes, or all of them where there are fewer.
-fn first(space: &mut [u8], size: usize) -> &mut [u8] {
-    let size = size.min(space.len());
-    &mut space[..size]
-}
-
 // Reads as many bytes as `space` has, and has them completed. In `next` itself the check unfolds the long arrays, and gives up.
 fn read_and_complete(rt: &impl Print, input: &mut impl Read, space: &mut [u8], out: &mut [u8]) {
     let written = completion::complete(streams::read_front(input, space), out);
     let _ = show::written(rt, written, out);
 }
 
-// Takes one case, or none where the input has no more. Each test program has its own, since their cases have other forms.
+// Takes one case, or none where the input has no more. mark_cases has cases of the same form, but lends other buffers and makes another
+// call.
 fn next(rt: &impl Print, input: &mut impl Read) -> Option<()> {
-    let size = u32::from_le_bytes(streams::read_array(input)?) as usize;
-    let room = u32::from_le_bytes(streams::read_array(input)?) as usize;
+    let size = cases::size(input)?;
+    let room = cases::size(input)?;
     // Room for a record and an output that are larger than the largest.
     let mut space = [0; 65552];
-    let mut out = [show::BLANK; 458768];
-    read_and_complete(rt, input, first(&mut space, size), first(&mut out, room));
+    let mut out = [cases::BLANK; 458768];
+    let space = cases::first(&mut space, size);
+    read_and_complete(rt, input, space, cases::first(&mut out, room));
     Some(())
 }
 

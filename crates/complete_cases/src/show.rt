@@ -1,9 +1,7 @@
 // Printing on standard output.
+use cases::BLANK;
 use refusal::Refusal;
 use std::io;
-
-// What the lent output holds before a call.
-pub const BLANK: u8 = 0xAA;
 
 // A line for each record, what is handed back: a number, 0 where nothing is refused, and a length. Then the bytes that were written,
 // and whether something behind them is not as it was lent.

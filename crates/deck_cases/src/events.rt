@@ -1,4 +1,5 @@
 // The four events. Each lends an output of `room` bytes, prints what is answered and hands on the deck.
+// `rt`, `deck`, `room` and `time` are no struct: it would be made once and taken apart in each function, which is no plainer.
 use crate::show;
 use deck::{Answer, Deck};
 use refusal::Refusal;
@@ -11,8 +12,8 @@ fn event<F: FnOnce(&mut [u8]) -> Result<Answer, Refusal>>(
 ) -> Deck
     requires { F.IsAlwaysCallable hand }
 {
-    let mut space = [show::FILL; 64];
-    let out = &mut space[..usize::from(room).min(64)];
+    let mut space = [cases::BLANK; 64];
+    let out = cases::first(&mut space, room.into());
     let answer = hand(out);
     let _ = show::answer(rt, answer, out);
     answer.map_or(deck, |answer| answer.deck)

@@ -25,7 +25,7 @@ fn next(rt: &impl Print, input: &mut impl Read, deck: Deck) -> Option<Deck> {
     let mut space = [0; 255];
     let args = &mut space[..usize::from(size)];
     let args = streams::read_front(input, args);
-    // A table of functions is no plainer: the calls take other arguments each.
+    // A table of functions is no plainer: not all calls take the same arguments.
     Some(match letter {
         b'b' => events::bytes(rt, deck, room, time, args),
         b'e' => end(rt, deck),

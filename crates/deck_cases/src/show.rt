@@ -1,11 +1,9 @@
 // Printing on standard output.
+use cases::BLANK;
 use deck::{Answer, Deck};
 use refusal::Refusal;
 use settings::{Point, Which};
 use std::{fmt, io};
-
-// What the lent output holds before a call.
-pub const FILL: u8 = 0xAA;
 
 // Bytes in hexadecimal, each behind a space: the lines expected of leaf_cases have brackets and small letters.
 #[derive(Clone, Copy)]
@@ -61,7 +59,7 @@ pub(super) fn answer(
             }
         }
     }
-    if !cases::untouched(behind, FILL) {
+    if !cases::untouched(behind, BLANK) {
         println!(rt; "touched")?;
     }
     Ok(())

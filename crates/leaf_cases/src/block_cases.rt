@@ -34,7 +34,7 @@ pub(super) fn write(rt: &impl Print, args: &[u8]) -> io::Result<()> {
     let command = cases::byte(args, 1);
     let room = cases::byte(args, 2);
     let data = args.get(3..).unwrap_or(&[]);
-    let mut space = [0xAA; 255];
+    let mut space = [cases::BLANK; 255];
     let out = &mut space[..usize::from(room)];
     // A length beside the output, as `write` hands it back: what is behind it is printed too.
     let (no, len) = numbered(block::write(group, command, data, out), 0);

@@ -8,15 +8,16 @@ mod show;
 
 use std::io::Read;
 
-// Takes one case, or none where the input has no more. Each test program has its own, since their cases have other forms.
+// Takes one case, or none where the input has no more. complete_cases has cases of the same form, but lends other buffers and makes
+// another call.
 fn next(rt: &impl Print, input: &mut impl Read) -> Option<()> {
-    let size = u32::from_le_bytes(streams::read_array(input)?) as usize;
-    let places = u32::from_le_bytes(streams::read_array(input)?) as usize;
+    let size = cases::size(input)?;
+    let places = cases::size(input)?;
     // Room for a record and a table that are larger than the largest.
     let mut space = [0; 65552];
     let mut table = [show::FILL; 6000];
-    let table = &mut table[..places.min(6000)];
-    let record = streams::read_front(input, &mut space[..size.min(65552)]);
+    let table = cases::first(&mut table, places);
+    let record = streams::read_front(input, cases::first(&mut space, size));
     let marked = marker::mark(record, table).into();
     let _ = show::marked(rt, marked, table);
     Some(())

@@ -1,12 +1,10 @@
 // Printing on standard output.
+use cases::BLANK;
 use marker::Marked;
 use std::io;
 
 // What the lent table holds before a call.
 pub const FILL: u32 = 0xFFFFFFFF;
-
-// What the lent output holds before a call.
-const BLANK: u8 = 0xAA;
 
 // A line for each record, what is handed back, whatever it is; then its text, which has the turn starts, in an output of just the size
 // it asks for; and a line where something behind the text or the turns is not as it was lent.

@@ -32,8 +32,8 @@ pub fn read_full<R: Read>(input: &mut R, space: &mut [u8]) -> Result<usize, Cut>
     Ok(count)
 }
 
-// The bytes that came before the buffer was full, the input ended or a read failed. A failure is not told, so no clause can say that
-// fewer than the buffer holds mean the end.
+// The bytes that came before the buffer was full, the input ended or a read failed. Where it is not full, which of the two it was is not
+// told, so no clause says that the input is at its end.
 pub fn read_front<'a, R: Read>(input: &mut R, space: &'a mut [u8]) -> &'a [u8]
     ensures in_bounds { length result.now ≤ length space.old }
     ensures bytes { Consumes (R.remaining input.old) (R.remaining input.new) result.now }
@@ -42,8 +42,8 @@ pub fn read_front<'a, R: Read>(input: &mut R, space: &'a mut [u8]) -> &'a [u8]
     &space[..count]
 }
 
-// An array of the next bytes, or none where the input has too few or a read fails. Where there is none, fewer bytes came than it has: what
-// came whole is handed out. A read may fail at any time, so whether one is tried at all stays free.
+// An array of the next bytes, or none where the input has too few or a read fails: then fewer bytes came than the array has. Since any
+// read may fail, no clause says when there is an array: one that is never read and never handed out would meet the contract too.
 pub fn read_array<R: Read, const N: usize>(input: &mut R) -> Option<[u8; N]>
     ensures whole { IfSome result (λ bytes. Consumes (R.remaining input.old) (R.remaining input.new) bytes) }
     ensures short { IfNone result ((bytes : List ℕ) × (length bytes < N) × Consumes (R.remaining input.old) (R.remaining input.new) bytes) }

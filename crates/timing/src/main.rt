@@ -14,7 +14,7 @@ fn mark(bytes: &[u8]) -> u64 {
     turns
 }
 
-// Three lines, as in timing_deck: a function for both would be the loop and the word alone.
+// Three lines, as in timing_deck. A function for both would take what differs, the loop and the word that is printed, and save no line.
 fn main(rt: HostRuntime) {
     let mut buf = [0; 65536];
     let turns = mark(streams::read_front(&mut rt.stdin(), &mut buf));

@@ -22,7 +22,7 @@ fn play(block: &[u8]) -> u64 {
     replies
 }
 
-// Three lines, as in timing: a function for both would be the loop and the word alone.
+// Three lines, as in timing. A function for both would take what differs, the loop and the word that is printed, and save no line.
 fn main(rt: HostRuntime) {
     let mut buf = [0; 65536];
     let replies = play(streams::read_front(&mut rt.stdin(), &mut buf));
