@@ -28,7 +28,8 @@ pub fn size<R: Read>(input: &mut R) -> Option<usize>
     Some(number(&bytes) as usize)
 }
 
-// The first `size` elements, or all of them where there are fewer.
+// The first `size` elements, or all of them where there are fewer. No clause says what the space holds afterwards: an `ensures*` of a part
+// of a slice would have to be proved by hand.
 pub fn first<T>(space: &mut [T], size: usize) -> &mut [T]
     ensures { result.now ≡ take size space.old }
 {

@@ -8,12 +8,6 @@ mod show;
 
 use std::io::Read;
 
-// Reads as many bytes as `space` has, and has them completed. In `next` itself the check unfolds the long arrays, and gives up.
-fn read_and_complete(rt: &impl Print, input: &mut impl Read, space: &mut [u8], out: &mut [u8]) {
-    let written = completion::complete(streams::read_front(input, space), out);
-    let _ = show::written(rt, written, out);
-}
-
 // Takes one case, or none where the input has no more. mark_cases has cases of the same form, but lends other buffers and makes another
 // call.
 fn next(rt: &impl Print, input: &mut impl Read) -> Option<()> {
@@ -22,8 +16,9 @@ fn next(rt: &impl Print, input: &mut impl Read) -> Option<()> {
     // Room for a record and an output that are larger than the largest.
     let mut space = [0; 65552];
     let mut out = [cases::BLANK; 458768];
-    let space = cases::first(&mut space, size);
-    read_and_complete(rt, input, space, cases::first(&mut out, room));
+    let out = cases::first(&mut out, room);
+    let record = streams::read_front(input, cases::first(&mut space, size));
+    let _ = show::written(rt, completion::complete(record, out), out);
     Some(())
 }
 
