@@ -22,7 +22,8 @@ pub const BLANK: u8 = 0xAA;
 pub fn size<R: Read>(input: &mut R) -> Option<usize>
     ensures known { IfSome result (λ size. (bytes : List ℕ) × (length bytes ≡ 4) × (size ≡ first_four bytes)
         × Consumes (R.remaining input.old) (R.remaining input.new) bytes) }
-    ensures short { IfNone result ((bytes : List ℕ) × (length bytes < 4) × Consumes (R.remaining input.old) (R.remaining input.new) bytes) }
+    ensures short { IfNone result ((bytes : List ℕ) × (length bytes < 4)
+        × Consumes (R.remaining input.old) (R.remaining input.new) bytes) }
 {
     let bytes = streams::read_array::<_, 4>(input)?;
     Some(number(&bytes) as usize)
