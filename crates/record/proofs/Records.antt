@@ -6,8 +6,8 @@ use native.Mathlib.Omega.{arith}
 use lib.ListN.{length, take, drop, length-append, length-drop, take-append-drop}
 use lib.Seq.{take_at, drop_at, take-append-le, drop-append-le, length-take-le}
 use Rattle.packed.specs.Numbers.{low_bytes}
-use Rattle.packed.proofs.Bytes.{Bytes, front, behind}
-use Rattle.packed.proofs.Numbers.{length-low}
+use Rattle.packed.proofs.Bytes.{Bytes, front, behind, joined}
+use Rattle.packed.proofs.Numbers.{length-low, low-are-bytes}
 use Rattle.record.specs.declared.Entry.{Entry}
 use Rattle.record.specs.Entries.{All}
 use Rattle.record.specs.Bytes.{entry_of, bytes_of, InBytes, first_entries, entries_of, record_of}
@@ -102,6 +102,15 @@ pub record-back : (es : List Entry) → All InBytes es → entries_of (record_of
 unfolding record_of
 record-back [] h = entries_none [] refl
 record-back (e ∷ es) h = entry_more e (record_of es) h.0 ∙ ap (λ (l : List Entry). e ∷ l) (record-back es h.1)
+
+-- and is made of bytes
+pub record-bytes : (es : List Entry) → All InBytes es → Bytes (record_of es)
+unfolding record_of bytes_of
+record-bytes [] h = tt
+record-bytes (e ∷ es) h =
+    joined (bytes_of e) (record_of es)
+    (h.0.kind, (h.0.flags, joined (low_bytes 4 e.content) (low_bytes 6 e.time) (low-are-bytes 4 e.content) (low-are-bytes 6 e.time)))
+    (record-bytes es h.1)
 
 -- the bytes of a record of whole entries are those of its entries
 pub entries-back : (n : ℕ) (a : List ℕ) → Bytes a → length a ≡ 12 * n → record_of (entries_of a) ≡ a
