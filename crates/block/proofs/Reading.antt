@@ -2,9 +2,10 @@
 use Rattle.std.proofs.Common.{◌≡◌, ℕ, ◌+◌, ◌-◌, ◌≤◌, ltb, List, length, get_or, take, drop, arith, length-drop, length-take-le, le-ltb, eq-eqb, ne_eqb, eqb-true}
 use native.Mathlib.Decide.{ℕ_discrete}
 use borrow.Author.Tests.{not-false}
+use Rattle.std.proofs.lemmas.Bool.{or_parts}
 use Rattle.block.specs.Block.{group_of, count_of, checksum}
 use Rattle.block.specs.Read.{length_wrong, sum_wrong, read_no, read_fields, read_data}
-use Rattle.block.proofs.Tests.{passed, neither}
+use Rattle.block.proofs.Tests.{passed}
 
 -- a block of the right length and checksum
 pub record Whole (block : List ℕ) : Type 0 where
@@ -17,7 +18,7 @@ unfolding read_no
 whole block e =
     let p = passed 6 7 (length_wrong block) (sum_wrong block) e in
     record {
-      sized = eqb-true _ _ (not-false _ (neither (ltb (length block) 3) _ p.0).1);
+      sized = eqb-true _ _ (not-false _ (or_parts (ltb (length block) 3) _ p.0).1);
       summed = eqb-true _ _ (not-false _ p.1);
     }
 

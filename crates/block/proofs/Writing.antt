@@ -2,9 +2,10 @@
 use Rattle.std.proofs.Common.{◌≡◌, ℕ, ◌+◌, ◌<◌, ◌≤◌, ltb, List, [], ◌∷◌, ◌++◌}
 use Rattle.std.proofs.Common.{length, take, drop, set, append_assoc, add-one, arith, length-append, drop-cons, take_at, ltb-false, le-ltb}
 use lib.Seq.{set_at}
+use Rattle.std.proofs.lemmas.Bool.{or_parts}
 use Rattle.block.specs.Block.{checksum, block_of}
 use Rattle.block.specs.Write.{field_wrong, room_short, write_no, written, written_out}
-use Rattle.block.proofs.Tests.{passed, neither}
+use Rattle.block.proofs.Tests.{passed}
 
 -- the checksum of what stands at the front of an output, put behind it
 pub closed : (front out now : List ℕ) (n last : ℕ) → length front ≡ n → n < length out
@@ -28,7 +29,7 @@ module _ (group : ℕ) (bytes out : List ℕ) where
   unfolding write_no
   fits e =
       let p = passed 8 0 (field_wrong group bytes) (room_short bytes out) e in
-      let q = neither (ltb 15 group) (ltb 15 (length bytes)) p.0 in
+      let q = or_parts (ltb 15 group) (ltb 15 (length bytes)) p.0 in
       record { small = ltb-false _ _ q.0; few = ltb-false _ _ q.1; room = ltb-false _ _ p.1 }
 
   pub fits-writes : Fits group bytes out → write_no group bytes out ≡ 0

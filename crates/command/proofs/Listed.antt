@@ -6,6 +6,7 @@ use Prim.Native.Nat.{ℕ, ◌%◌, ◌≤◌, ◌<◌}
 use native.Mathlib.Omega.{arith}
 use borrow.Author.Tests.{eqb-true}
 use lib.Dec.{eqb}
+use Rattle.std.proofs.lemmas.Bool.{and_parts}
 use Rattle.std.specs.Prelude.{Option, Some, None}
 use Rattle.command.specs.declared.Command.{Command}
 use Rattle.command.specs.declared.Effect.{Effect}
@@ -46,10 +47,6 @@ abbrev pub Found : Option ReplyKind → ℕ → Type 0
 Found None first = Unit {0}
 Found (Some kind) first = wants kind ≡ first % 16
 
-both : (a b : Bool) → a && b ≡ true → (a ≡ true) × (b ≡ true)
-both true b e = (refl, e)
-both false b e = (e, cc)
-
 either : (t : Bool) (kind other : Option ReplyKind) (first : ℕ) → (t ≡ true → Found kind first) → Found other first
     → Found (cond t kind other) first
 either true kind other first h k = h refl
@@ -59,9 +56,9 @@ finds : (rs : List Command) (first command : ℕ) → counted rs ≡ true → Fo
 unfolding counted lookup
 finds [] first command e = tt
 finds (r ∷ rs) first command e =
-    let p = both (eqb (wants r.kind) (r.first % 16)) (counted rs) e in
+    let p = and_parts (eqb (wants r.kind) (r.first % 16)) (counted rs) e in
     either (eqb r.first first && eqb r.command command) (Some r.kind) (lookup rs first command) first
-    (λ h. let same = eqb-true r.first first (both (eqb r.first first) (eqb r.command command) h).0 in
+    (λ h. let same = eqb-true r.first first (and_parts (eqb r.first first) (eqb r.command command) h).0 in
     eqb-true (wants r.kind) (r.first % 16) p.0 ∙ ap (λ (n : ℕ). n % 16) same)
     (finds rs first command p.1)
 

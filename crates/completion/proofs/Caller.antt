@@ -8,6 +8,7 @@ use borrow.Author.Tests.{ltb-true}
 use lib.Dec.{eqb}
 use lib.ListN.{length, drop}
 use lib.Seq.{take-append_seam, drop-append_seam}
+use Rattle.std.proofs.lemmas.Bool.{and_parts}
 use Rattle.std.specs.Prelude.{Err}
 use Rattle.refusal.specs.declared.Refusal.{Refusal}
 use Rattle.refusal.proofs.Numbers.{refuses}
@@ -17,7 +18,7 @@ use Rattle.deck.specs.declared.Answer.{Answer}
 use Rattle.deck.specs.Line.{Event, time_of, Deck, Reply, answers, says}
 use Rattle.deck.specs.Calls.{flags_of, place_of, flags_fit, number, told, len_of, reply_bytes, Call, taken_call, view, Returned, given, returned, seen}
 use Rattle.deck.specs.Events.{Few, none, one, late, two}
-use Rattle.deck.proofs.Late.{both_true, overdue}
+use Rattle.deck.proofs.Late.{overdue}
 use Rattle.deck.proofs.Numbers.{unrefused, call-is}
 use Rattle.deck.proofs.Replies.{few-replies}
 use Rattle.record.specs.declared.Entry.{Entry}
@@ -35,16 +36,16 @@ use Rattle.completion.proofs.Placed.{by_one, with-last}
 takes : (k : ℕ) (e : Entry) → fits k e ≡ true
     → (meant k e ≡ true) × (flags_fit (flags_of (handed_as k e)) ≡ true) × (place_of (handed_as k e) < day)
 unfolding fits meant
-takes zero e p = let x = both_true (flags_fit e.flags) _ p in (x.1, x.0, omega arith)
+takes zero e p = let x = and_parts (flags_fit e.flags) _ p in (x.1, x.0, omega arith)
 takes (suc zero) e p = (p, refl, omega arith)
-takes (suc (suc zero)) e p = let x = both_true (eqb e.flags 0) _ p in (x.0, refl, ltb-true e.content day x.1)
+takes (suc (suc zero)) e p = let x = and_parts (eqb e.flags 0) _ p in (x.0, refl, ltb-true e.content day x.1)
 takes (suc (suc (suc zero))) e p = (p, refl, omega arith)
 takes (suc (suc (suc (suc k)))) e p = absurd (false≢true p)
 
 pub never-refused : {t : ℕ} {e : Entry} (room : ℕ) → 18 ≤ room → Follows t e
     → (meant e.kind e ≡ true) × (number room t (handed e) ≡ 0)
 never-refused {t} {e} room r f =
-    let (meant, flags, place) = takes e.kind e (both_true (fits e.kind e) _ f.form).0 in
+    let (meant, flags, place) = takes e.kind e (and_parts (fits e.kind e) _ f.form).0 in
     let u = handed-time e.kind e in (
       meant,
       unrefused room t (time_of (handed e)) (flags_of (handed e)) (place_of (handed e)) r (rw u f.later) (rw u (formed-time e f.form)) flags place,

@@ -6,7 +6,7 @@ use mathlib.Core.Logic.{◌↔◌}
 use mathlib.Core.List.{List, [], ◌∷◌, cons≢nil}
 use native.Mathlib.Omega.{arith}
 use borrow.Author.Tests.{not-true, le-leb, leb-true}
-use Rattle.deck.proofs.Late.{both_true}
+use Rattle.std.proofs.lemmas.Bool.{and_parts}
 use Rattle.record.specs.declared.Entry.{Entry}
 use Rattle.record.specs.Entries.{WellFormed, formed, keep, is_deck, of_kind, from_deck, All, First}
 use Rattle.record.proofs.Lists.{true_of, Ordered, ordered-of-steps, steps-of-ordered}
@@ -24,8 +24,8 @@ pub record Follows (t : ℕ) (e : Entry) : Type 0 where
 pub follows_is : {t : ℕ} {e : Entry} → follows t e ≡ true → Follows t e
 unfolding follows
 follows_is {t} {e} p =
-    let x = both_true (not (is_deck e.kind)) _ p in
-    let y = both_true _ (formed e) x.1 in
+    let x = and_parts (not (is_deck e.kind)) _ p in
+    let y = and_parts _ (formed e) x.1 in
     record { no_deck = not-true (is_deck e.kind) x.0; later = leb-true t e.time y.0; form = y.1 }
 
 is-follows : {t : ℕ} {e : Entry} → Follows t e → follows t e ≡ true
@@ -37,7 +37,7 @@ is-follows {t} {e} x = rw (x.no_deck, le-leb t e.time x.later, x.form)
 pub all-follow-is : (t : ℕ) (e : Entry) (es : List Entry) → all_follow t (e ∷ es) ≡ true
     → Follows t e × (all_follow e.time es ≡ true)
 unfolding all_follow
-all-follow-is t e es p = let x = both_true (follows t e) _ p in (follows_is x.0, x.1)
+all-follow-is t e es p = let x = and_parts (follows t e) _ p in (follows_is x.0, x.1)
 
 -- the three claims on an exercise, from t on
 abbrev From : ℕ → List Entry → Type 0

@@ -4,11 +4,11 @@ use mathlib.Core.Path.{◌≡◌, refl, sym, ap, ◌∙◌}
 use mathlib.Core.Bool.{true}
 use mathlib.Core.List.{List, [], ◌∷◌, ◌++◌, map}
 use lib.ListN.{length, take}
+use Rattle.std.proofs.lemmas.Bool.{and_parts}
 use Rattle.deck.specs.declared.Deck.{Deck as Held}
 use Rattle.deck.specs.Line.{Deck, at_power_on, Reply, said as events_said}
 use Rattle.deck.specs.Calls.{new_deck}
 use Rattle.deck.specs.Runs.{Obtained, known, Called}
-use Rattle.deck.proofs.Late.{both_true}
 use Rattle.deck.proofs.Runs.{called-said}
 use Rattle.record.specs.declared.Entry.{Entry}
 use Rattle.record.specs.Entries.{handed, after_entry, says_to, run, said, last_time}
@@ -82,4 +82,4 @@ full-marks = gets-marks
 pub completion-marked : (bytes : List ℕ) → is_exercise bytes ≡ true → EndsShut (entries_of bytes) → FullMarks (entries_of bytes)
 unfolding is_exercise
 completion-marked bytes p =
-    full-marks (entries_of bytes) ((exercise-exactly (entries_of bytes)).0 (both_true (is_record (length bytes)) _ p).1)
+    full-marks (entries_of bytes) ((exercise-exactly (entries_of bytes)).0 (and_parts (is_record (length bytes)) _ p).1)

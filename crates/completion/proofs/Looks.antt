@@ -6,13 +6,13 @@ use mathlib.Core.Logic.{◌⊎◌, inl, inr, ⊎_elim}
 use mathlib.Core.List.{List, [], ◌∷◌, ◌++◌, tail-eq_of_cons-eq}
 use native.Mathlib.Omega.{arith}
 use borrow.Author.Tests.{lt-ltb}
+use Rattle.std.proofs.lemmas.Bool.{and_parts}
 use Rattle.deck.specs.Line.{Event, byte, look, position, cassette, time_of, Deck, at_power_on, Reply, Answer, silently, is_open, timed_out}
 use Rattle.deck.specs.Line.{looked, taken, acted, both_of}
 use Rattle.deck.specs.Events.{Few, none as no-reply, one as one-reply, late, two}
 use Rattle.deck.proofs.Steps.{look-shut, look-early, look-cases, look-in-time, byte-cases, taken-cases, acted-byte, acted-other}
 use Rattle.deck.proofs.Steps.{look_twice, acted-unheard, answers-soon}
 use Rattle.deck.proofs.Cases.{expiry, expired, looked-late, looked-again}
-use Rattle.deck.proofs.Late.{both_true}
 use Rattle.deck.proofs.Replies.{few-replies, late-looked}
 use Rattle.record.specs.declared.Entry.{Entry}
 use Rattle.record.specs.Entries.{handed, after_entry}
@@ -33,7 +33,7 @@ in-time d t p o =
 
 -- so a time-out that is found at any time is due after t
 pub knows-due : (d : Deck) (t u : ℕ) → Knows d t → timed_out d u ≡ true → t ≤ d.last + 10000
-knows-due d t u p h = in-time d t p (both_true (is_open d.block) _ h).0
+knows-due d t u p h = in-time d t p (and_parts (is_open d.block) _ h).0
 
 -- ---- what a look finds
 

@@ -1,4 +1,5 @@
 -- What the loop over the entries has put so far.
+use Rattle.std.proofs.lemmas.Bool.{and_parts}
 use Rattle.std.specs.Prelude.{Result, Ok, Err, IsOk, is_ok}
 use Prim.Native.Nat.{ℕ, ◌+◌, ◌*◌, ◌≤◌}
 use mathlib.Core.Path.{◌≡◌, refl, sym, ap, ◌∙◌}
@@ -9,7 +10,6 @@ use lib.ListN.{length}
 use Rattle.refusal.specs.declared.Refusal.{Refusal}
 use Rattle.deck.specs.declared.Deck.{Deck as Held}
 use Rattle.deck.specs.Calls.{view, new_deck}
-use Rattle.deck.proofs.Late.{both_true}
 use Rattle.deck.proofs.Steps.{look-shut}
 use Rattle.record.specs.declared.Entry.{Entry}
 use Rattle.record.specs.Entries.{after_entry, says_to}
@@ -54,7 +54,7 @@ module _ (es : List Entry) (a : Page) where
 
     pub follows-here : follows d.clock e ≡ true
     unfolding all_follow
-    follows-here = (both_true (follows d.clock e) _ v.follow).0
+    follows-here = (and_parts (follows d.clock e) _ v.follow).0
 
     -- with the entry and the replies to it
     abbrev more : List Entry

@@ -1,4 +1,5 @@
 -- The whole call, from its tests and the record that was put.
+use Rattle.std.proofs.lemmas.Bool.{and_parts}
 use Rattle.std.specs.Prelude.{Result, Ok, Err, is_ok}
 use Prim.Native.Nat.{ℕ, ◌≤◌}
 use mathlib.Core.Path.{◌≡◌, refl, sym, ap, ◌∙◌}
@@ -12,7 +13,6 @@ use Rattle.refusal.specs.declared.Refusal.{Refusal}
 use Rattle.refusal.specs.Numbers.{number_of}
 use Rattle.refusal.specs.Written.{written_by}
 use Rattle.refusal.proofs.Numbers.{refuses}
-use Rattle.deck.proofs.Late.{both_true}
 use Rattle.record.specs.Bytes.{entries_of, is_record}
 use Rattle.text.specs.declared.Page.{Page}
 use Rattle.text.specs.Puts.{Puts, Adds}
@@ -30,7 +30,7 @@ module _ (bytes : List ℕ) where
   unfolding refusal is_exercise
   taken room p =
       let q = neither _ (ltb room (room_for bytes)) p in
-      (ltb-false room (room_for bytes) q.1, (both_true (is_record (length bytes)) _ q.0).1)
+      (ltb-false room (room_for bytes) q.1, (and_parts (is_record (length bytes)) _ q.0).1)
 
   module _ (out : List ℕ) where
     pub call-refused : (e : Refusal) → number_of e ≡ refusal bytes (length out)

@@ -8,6 +8,7 @@ use native.Mathlib.Omega.{arith}
 use borrow.Author.Tests.{lt-ltb, le-ltb, le-leb, lt-leb, eq-eqb, ne_eqb, ltb-false, leb-true, not-true}
 use lib.Dec.{eqb, leb, ltb}
 use lib.ListN.{length}
+use Rattle.std.proofs.lemmas.Bool.{and_parts}
 use Rattle.std.proofs.Common.{Result, Ok, Err}
 use Rattle.std.specs.Result.{IsErrAnd}
 use Rattle.refusal.specs.declared.Refusal.{Refusal}
@@ -20,7 +21,6 @@ use Rattle.deck.specs.Calls.{refusal, number, view, Returned, returned, Answers}
 use Rattle.deck.specs.Joins.{grows, fills, filling, striking, unanswered, OnlyIf}
 use Rattle.deck.proofs.Steps.{look-nothing, answers-clean}
 use Rattle.deck.proofs.Held.{not-first, gets-full}
-use Rattle.deck.proofs.Late.{both_true}
 
 -- ---- the tests of the code
 
@@ -46,7 +46,7 @@ module _ (d : Held) (t b : ℕ) (heard ends : Bool) (h : heard ≡ not (timed_ou
 pub heard-parts : (d : Held) (t : ℕ) → true ≡ not (timed_out (view d) t) && not (in_quiet (view d) t)
     → (timed_out (view d) t ≡ false) × (d.free ≤ t)
 heard-parts d t h =
-    let p = both_true (not (timed_out (view d) t)) _ (sym h) in
+    let p = and_parts (not (timed_out (view d) t)) _ (sym h) in
     (not-true (timed_out (view d) t) p.0, ltb-false t d.free (not-true (in_quiet (view d) t) p.1))
 
 -- ---- what a byte that fills the block has
@@ -56,8 +56,8 @@ module _ (d : Held) (t b : ℕ) (g : fills (view d) t b ≡ true) where
       × (leb (size ((view d).block ++ b ∷ [])) (length (view d).block + 1) ≡ true)
   unfolding fills
   parts =
-      let p = both_true (not (timed_out (view d) t)) _ g in
-      let q = both_true (not (in_quiet (view d) t)) _ p.1 in
+      let p = and_parts (not (timed_out (view d) t)) _ g in
+      let q = and_parts (not (in_quiet (view d) t)) _ p.1 in
       (not-true (timed_out (view d) t) p.0, not-true (in_quiet (view d) t) q.0, q.1)
 
   pub fills-looked : looked (view d) t ≡ silently (view d)

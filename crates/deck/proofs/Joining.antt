@@ -7,6 +7,7 @@ use native.Mathlib.Omega.{arith}
 use borrow.Author.Tests.{eq-eqb, ne_eqb, eqb-true, ltb-true, ltb-false, not-true}
 use lib.Dec.{eqb, ltb}
 use lib.ListN.{length}
+use Rattle.std.proofs.lemmas.Bool.{and_parts}
 use Rattle.deck.specs.declared.Deck.{Deck as Held}
 use Rattle.deck.specs.Line.{byte, silently, timed_out, looked, in_quiet, size, answers}
 use Rattle.deck.specs.Calls.{refusal, view, Made}
@@ -14,7 +15,6 @@ use Rattle.deck.specs.Joins.{grows, joins, filling, grown, with_clock, Tried, jo
 use Rattle.deck.proofs.Steps.{look-nothing, answers-clean}
 use Rattle.deck.proofs.Held.{few-open, stays_open}
 use Rattle.deck.proofs.Made.{made_so, made_more}
-use Rattle.deck.proofs.Late.{both_true}
 use Rattle.deck.proofs.Numbers.{passed}
 
 -- ---- what a byte that joins has
@@ -24,8 +24,8 @@ module _ (d : Held) (t b : ℕ) (g : grows (view d) t b ≡ true) where
       × (ltb (length (view d).block + 1) (size ((view d).block ++ b ∷ [])) ≡ true)
   unfolding grows
   parts =
-      let p = both_true (not (timed_out (view d) t)) _ g in
-      let q = both_true (not (in_quiet (view d) t)) _ p.1 in
+      let p = and_parts (not (timed_out (view d) t)) _ g in
+      let q = and_parts (not (in_quiet (view d) t)) _ p.1 in
       (not-true (timed_out (view d) t) p.0, not-true (in_quiet (view d) t) q.0, q.1)
 
   pub grows-looked : looked (view d) t ≡ silently (view d)
@@ -84,11 +84,11 @@ module _ (d : Held) (t b : ℕ) where
   module _ (j : joins d t b ≡ true) where
     pub joins-grows : grows (view d) t b ≡ true
     unfolding joins
-    joins-grows = (both_true (eqb (refusal 18 d.clock t 0 0) 0) _ j).1
+    joins-grows = (and_parts (eqb (refusal 18 d.clock t 0 0) 0) _ j).1
 
     pub joins-range : (t < 2 ^ 48) × (d.clock ≤ t)
     unfolding joins
-    joins-range = allowed 18 d.clock t 0 0 (eqb-true _ _ (both_true (eqb (refusal 18 d.clock t 0 0) 0) _ j).0)
+    joins-range = allowed 18 d.clock t 0 0 (eqb-true _ _ (and_parts (eqb (refusal 18 d.clock t 0 0) 0) _ j).0)
 
     pub joins-deck : (joining d t b).deck ≡ grown (with_clock t d) t b
     joins-deck = ap (λ (k : Tried). k.deck) (joining-is _ true _ refl j refl)

@@ -8,13 +8,13 @@ use native.Mathlib.Omega.{arith}
 use borrow.Author.Tests.{lt-ltb, le-ltb, lt-leb, ne_eqb, not-true, eqb-true, ltb-true, ltb-false, leb-false}
 use lib.Dec.{eqb, ltb}
 use lib.ListN.{length}
+use Rattle.std.proofs.lemmas.Bool.{and_parts}
 use Rattle.deck.specs.declared.Deck.{Deck as Held}
 use Rattle.std.specs.Prelude.{IfSome}
 use Rattle.deck.specs.Line.{byte, Deck, Answer, silently, timed_out, size, looked, answers}
 use Rattle.deck.specs.Calls.{refusal, number, flags_fit, view, Returned}
 use Rattle.deck.specs.Joins.{grows, fills, joins, Tried, joining, filling, striking, OnlyIf}
 use Rattle.deck.proofs.Made.{made_so}
-use Rattle.deck.proofs.Late.{both_true}
 use Rattle.deck.proofs.Held.{opened}
 use Rattle.deck.proofs.Steps.{look-found, look-nothing, byte-dropped}
 use Rattle.deck.proofs.Found.{byte-in-time}
@@ -48,11 +48,11 @@ module _ (m : Marker) (e : Entry) (y : fills_block m e ≡ true) where
       × (fills (view d) e.time e.content ≡ true)
   unfolding fills_block filling
   tests =
-      let p = both_true (is_controller e.kind) _ y in
-      let q = both_true (eqb e.flags 0) _ p.1 in
-      let r = both_true (ltb e.content 256) _ q.1 in
-      let s = both_true (not (some (awaited m.waits).left)) _ r.1 in
-      let t = both_true (eqb (refusal 18 d.clock e.time 0 0) 0) _ s.1 in
+      let p = and_parts (is_controller e.kind) _ y in
+      let q = and_parts (eqb e.flags 0) _ p.1 in
+      let r = and_parts (ltb e.content 256) _ q.1 in
+      let s = and_parts (not (some (awaited m.waits).left)) _ r.1 in
+      let t = and_parts (eqb (refusal 18 d.clock e.time 0 0) 0) _ s.1 in
       (p.0, q.0, r.0, s.0, t.0, t.1)
 
   kind : e.kind ≡ 0

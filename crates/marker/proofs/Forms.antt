@@ -4,9 +4,9 @@ use mathlib.Core.Path.{◌≡◌, refl, sym, ◌∙◌}
 use mathlib.Core.Bool.{true, false, false≢true}
 use borrow.Author.Tests.{ltb-true}
 use lib.Dec.{eqb, ltb}
+use Rattle.std.proofs.lemmas.Bool.{and_parts}
 use Rattle.timecode.specs.Time.{day}
 use Rattle.deck.specs.Calls.{flags_fit}
-use Rattle.deck.proofs.Late.{both_true}
 use Rattle.record.specs.declared.Entry.{Entry}
 use Rattle.std.specs.Prelude.{Some, None}
 use Rattle.record.specs.declared.kind.Kind.TheVariants.{Controller, Deck as DeckByte, Position, Cassette}
@@ -55,19 +55,19 @@ kind-cassette (suc (suc (suc (suc k)))) p = cc
 
 module _ (e : Entry) (f : formed e ≡ true) where
   fits-true : fits e.kind e ≡ true
-  fits-true = (both_true _ _ f).0
+  fits-true = (and_parts _ _ f).0
 
   pub formed-time : e.time < 2 ^ 48
-  formed-time = ltb-true e.time (2 ^ 48) (both_true (fits e.kind e) _ f).1
+  formed-time = ltb-true e.time (2 ^ 48) (and_parts (fits e.kind e) _ f).1
 
   pub formed-controller : e.kind ≡ 0 → (flags_fit e.flags ≡ true) × (e.content < 256)
   formed-controller p =
-      let b = both_true (flags_fit e.flags) (ltb e.content 256) (sym (fits-controller e p) ∙ fits-true) in
+      let b = and_parts (flags_fit e.flags) (ltb e.content 256) (sym (fits-controller e p) ∙ fits-true) in
       (b.0, ltb-true e.content 256 b.1)
 
   pub formed-position : e.kind ≡ 2 → e.content < day
   formed-position p =
-      ltb-true e.content day (both_true (eqb e.flags 0) (ltb e.content day) (sym (fits-position e p) ∙ fits-true)).1
+      ltb-true e.content day (and_parts (eqb e.flags 0) (ltb e.content day) (sym (fits-position e p) ∙ fits-true)).1
 
   -- it has a kind
   pub formed-kind : None ≡ kind_of e.kind → ⊥

@@ -1,6 +1,6 @@
 -- Flags put into a byte by `|`, from the lowest bit up: their sum, which is below 256.
 use mathlib.Core.Path.{◌≡◌, refl, ◌∙◌}
-use mathlib.Core.Bool.{Bool, true, false, ◌&&◌, and-eq-true_iff}
+use mathlib.Core.Bool.{Bool, true, false, ◌&&◌}
 use mathlib.Core.List.{List, [], ◌∷◌}
 use Prim.Native.Nat.{ℕ, suc, ◌+◌, ◌*◌, ◌%◌, ◌<◌, ◌≤◌, ◌^◌}
 use native.Mathlib.Nat.{mod-eq_of_lt, one-mul, zero-mul, add-zero, mul-zero, mul-one, add_comm}
@@ -9,6 +9,7 @@ use borrow.Author.Tests.{ltb-true, leb-true}
 use lib.Bits.{bit_or, or_zero_r, or_shifted_r}
 use lib.Dec.{ltb, leb}
 use lib.Pow.{pow-lt, pow_mono}
+use Rattle.std.proofs.lemmas.Bool.{and_parts}
 use Rattle.settings.specs.Status.{bit}
 
 -- ---- one flag above the bits that are there
@@ -45,16 +46,13 @@ abbrev pub rising : ℕ → Flags → Bool
 rising j [] = true
 rising j (f ∷ fs) = leb j f.0 && ltb f.0 8 && rising (suc f.0) fs
 
-both : (a b : Bool) → (a && b) ≡ true → (a ≡ true) × (b ≡ true)
-both a b e = (and-eq-true_iff a b).0 e
-
 above : (j low : ℕ) (fs : Flags) → j ≤ 8 → rising j fs ≡ true → low < 2 ^ j
     → (ored low fs ≡ summed low fs) × (summed low fs < 256)
 above j low [] h r l = (refl, omega (arith, pow_mono {i = j} {j = 8} h))
 above j low (f ∷ fs) h r l =
     let k = f.0 in
-    let rs = both _ _ r in
-    let here = both _ _ rs.0 in
+    let rs = and_parts _ _ r in
+    let here = and_parts _ _ rs.0 in
     let h' : k < 8 = ltb-true k 8 here.1 in
     let l' : low < 2 ^ k = omega (arith, pow_mono {i = j} {j = k} (leb-true j k here.0)) in
     rw (join k low f.1 h' l') (above (suc k) _ fs h' rs.1 (join-lt k low f.1 l'))

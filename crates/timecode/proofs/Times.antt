@@ -10,10 +10,10 @@ use borrow.Author.Tests.{eqb-true, lt-ltb, ltb-true}
 use lib.Arith.{digits_div, digits_lt, digits_mod}
 use lib.Dec.{ltb}
 use lib.ListN.{length, get_or}
+use Rattle.std.proofs.lemmas.Bool.{and_parts, cond_both}
 use Rattle.timecode.specs.Bcd.{bcd, bcd_value}
 use Rattle.timecode.specs.Time.{frames, day, Placed, Timed, Legal, position_of, time_of, is_time, placed, read_time, write_time, frame_on, frame_back}
 use Rattle.timecode.proofs.Bcd.{bcd-lt, bcd-value, below, below-byte, below-value}
-use Rattle.timecode.proofs.Tests.{both, chosen}
 
 -- ---- a number of frames and its digits, at any number of frames in a second
 
@@ -98,10 +98,10 @@ accepted-is bytes e = passed (is_time bytes) _ e
 
 accepted-legal : (bytes : List ℕ) → (read_time bytes).no ≡ 0 → Legal bytes
 accepted-legal bytes e =
-    let h = both _ _ (accepted-is bytes e) in
-    let m = both _ _ h.0 in
-    let s = both _ _ m.0 in
-    let f = both _ _ s.0 in
+    let h = and_parts _ _ (accepted-is bytes e) in
+    let m = and_parts _ _ h.0 in
+    let s = and_parts _ _ m.0 in
+    let f = and_parts _ _ s.0 in
     record {
       f = bcd_value (get_or bytes 0 0);
       s = bcd_value (get_or bytes 1 0);
@@ -152,22 +152,22 @@ four-lt ha hb hc hd (suc (suc (suc (suc i)))) = omega arith
 pub bytes_lt : (p i : ℕ) → get_or (write_time p).bytes i 0 < 256
 unfolding write_time
 bytes_lt p i =
-    chosen
-    (λ (r : Timed). get_or r.bytes i 0 < 256)
+    cond_both
     (ltb p day)
     _
     _
+    (λ (r : Timed). get_or r.bytes i 0 < 256)
     (λ e. four-lt
     (bcd-lt (p % frames) (le_trans (mod-lt p frames-some) frames-few))
     (bcd-lt (p / frames % 60) (omega arith))
     (bcd-lt (p / frames / 60 % 60) (omega arith))
     (bcd-lt (p / frames / 60 / 60) (omega (arith, hour-lt frames p frames-some (ltb-true p day e))))
     i)
-    (four-lt (omega arith) (omega arith) (omega arith) (omega arith) i)
+    (λ _. four-lt (omega arith) (omega arith) (omega arith) (omega arith) i)
 
 pub bytes-four : (p : ℕ) → length (write_time p).bytes ≡ 4
 unfolding write_time
-bytes-four p = chosen (λ (r : Timed). length r.bytes ≡ 4) (ltb p day) _ _ (λ _. refl) refl
+bytes-four p = cond_both (ltb p day) _ _ (λ (r : Timed). length r.bytes ≡ 4) (λ _. refl) (λ _. refl)
 
 -- ---- one frame on and one back
 

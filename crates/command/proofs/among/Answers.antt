@@ -1,8 +1,8 @@
 -- `command::among` meets its contract: what is left of the list from a row on gives the same answer as from its own first row.
 use Rattle.std.proofs.Common.{◌≡◌, ℕ, zero, suc, ◌+◌, ◌*◌, ◌<◌, Bool, true, false, cond, ◌&&◌, eqb, ltb}
-use Rattle.std.proofs.Common.{List, [], ◌∷◌, length, get_or, drop, Option, Some, sym, ◌∙◌, add-one, arith, eq-eqb, ne_eqb, drop-cons}
+use Rattle.std.proofs.Common.{List, [], ◌∷◌, length, get_or, drop, Option, Some, refl, sym, ◌∙◌, add-one, arith, eq-eqb, ltb-true, ne_eqb, drop-cons}
 use native.Mathlib.Decide.{ℕ_discrete}
-use lib.Dec.{T, ltb→lt}
+use Rattle.std.proofs.lemmas.Bool.{and_parts}
 use Rattle.command.specs.declared.Command.{Command}
 use Rattle.command.specs.declared.ReplyKind.{ReplyKind}
 use Rattle.command.specs.declared.ReplyKind.TheVariants.{Ack}
@@ -18,23 +18,19 @@ abbrev code : ℕ → ℕ → ℕ
 code f c = f * 256 + c
 
 -- the rows hold bytes, by a test of the whole list
-both : (a b : Bool) → T (a && b) → T a × T b
-both true b t = (tt, t)
-both false b t = absurd t
-
 bytes : List Command → Bool
 bytes [] = true
 bytes (r ∷ rs) = ltb r.command 256 && bytes rs
 
-byte_at : (rs : List Command) (i : ℕ) → T (bytes rs) → (get_or rs i blank).command < 256
+byte_at : (rs : List Command) (i : ℕ) → bytes rs ≡ true → (get_or rs i blank).command < 256
 unfolding bytes
-byte_at [] i t = omega arith
-byte_at (r ∷ rs) zero t = ltb→lt r.command 256 (both (ltb r.command 256) (bytes rs) t).0
-byte_at (r ∷ rs) (suc i) t = byte_at rs i (both (ltb r.command 256) (bytes rs) t).1
+byte_at [] i e = omega arith
+byte_at (r ∷ rs) zero e = ltb-true r.command 256 (and_parts (ltb r.command 256) (bytes rs) e).0
+byte_at (r ∷ rs) (suc i) e = byte_at rs i (and_parts (ltb r.command 256) (bytes rs) e).1
 
 row-byte : (i : ℕ) → (get_or commands i blank).command < 256
 unfolding commands bytes
-row-byte i = byte_at commands i tt
+row-byte i = byte_at commands i refl
 
 -- The step of the loop: the row at `i` is the one looked for, or the rest of the list behind it answers.
 module _ (table : List Command) (i from f c : ℕ) (all : table ≡ commands) (here : i < length commands)
