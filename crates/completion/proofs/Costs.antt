@@ -8,6 +8,7 @@ use mathlib.Core.List.{List, [], ◌∷◌, ◌++◌, append-nil}
 use native.Mathlib.Omega.{arith}
 use lib.Dec.{leb}
 use lib.ListN.{length, length-append, length-map}
+use Rattle.std.proofs.lemmas.Bool.{cases_lt}
 use Rattle.execute.specs.Execute.{execute}
 use Rattle.execute.proofs.Replies.{reply-short}
 use Rattle.deck.specs.Line.{Event, byte, look, position, cassette, time_of, Deck, deck, at_power_on, Reply, Answer, is_open, size, taken, acted, answers}
@@ -19,7 +20,6 @@ use Rattle.record.specs.Entries.{entry, handed, after_entry, says_to}
 use Rattle.record.specs.Bytes.{entries_of}
 use Rattle.record.proofs.Bytes.{length-entries}
 use Rattle.record.proofs.Records.{length-record}
-use Rattle.record.proofs.Lists.{le-or-lt}
 use Rattle.completion.specs.Completed.{with_reply, with_replies, completed_from, completed}
 use Rattle.completion.specs.Calls.{room_for, completion}
 
@@ -36,7 +36,7 @@ size-least (b ∷ block) = omega arith
 
 module _ (d : Deck) where
   taken-costs : (o : List ℕ) (b t : ℕ) → Costs (taken d (o ++ b ∷ []) t) (6 * length o + 6)
-  taken-costs o b t = ⊎_elim full more (le-or-lt (size block) (length block))
+  taken-costs o b t = ⊎_elim more full (cases_lt (length block) (size block))
     where
       block : List ℕ
       block = o ++ b ∷ []

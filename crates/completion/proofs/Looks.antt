@@ -6,7 +6,7 @@ use mathlib.Core.Logic.{◌⊎◌, inl, inr, ⊎_elim}
 use mathlib.Core.List.{List, [], ◌∷◌, ◌++◌, tail-eq_of_cons-eq}
 use native.Mathlib.Omega.{arith}
 use borrow.Author.Tests.{lt-ltb}
-use Rattle.std.proofs.lemmas.Bool.{and_parts}
+use Rattle.std.proofs.lemmas.Bool.{cases_lt, and_parts}
 use Rattle.deck.specs.Line.{Event, byte, look, position, cassette, time_of, Deck, at_power_on, Reply, Answer, silently, is_open, timed_out}
 use Rattle.deck.specs.Line.{looked, taken, acted, both_of}
 use Rattle.deck.specs.Events.{Few, none as no-reply, one as one-reply, late, two}
@@ -17,7 +17,6 @@ use Rattle.deck.proofs.Replies.{few-replies, late-looked}
 use Rattle.record.specs.declared.Entry.{Entry}
 use Rattle.record.specs.Entries.{handed, after_entry}
 use Rattle.record.proofs.Handed.{handed-time, after_is}
-use Rattle.record.proofs.Lists.{le-or-lt}
 
 -- the deck has been told the time t: a look then finds nothing more
 abbrev pub Knows : Deck → ℕ → Type 0
@@ -29,7 +28,7 @@ knows-power-on = look-shut at_power_on 0 refl
 -- a block that is open has not timed out
 in-time : (d : Deck) (t : ℕ) → Knows d t → is_open d.block ≡ true → t ≤ d.last + 10000
 in-time d t p o =
-    ⊎_elim (λ h. h) (λ h. absurd (late-looked d t (rw (o, lt-ltb (d.last + 10000) t h)) p)) (le-or-lt t (d.last + 10000))
+    ⊎_elim (λ h. absurd (late-looked d t (rw (o, lt-ltb (d.last + 10000) t h)) p)) (λ h. h) (cases_lt (d.last + 10000) t)
 
 -- so a time-out that is found at any time is due after t
 pub knows-due : (d : Deck) (t u : ℕ) → Knows d t → timed_out d u ≡ true → t ≤ d.last + 10000

@@ -7,13 +7,14 @@ use mathlib.Core.Logic.{⊎_elim}
 use mathlib.Core.List.{List, [], ◌∷◌, ◌++◌, map, append-nil, append_assoc}
 use native.Mathlib.Omega.{arith}
 use lib.Dec.{T, ltb, lt→ltb}
+use Rattle.std.proofs.lemmas.Bool.{cases_lt}
 use Rattle.deck.specs.Line.{Deck, at_power_on, Reply, Answer, silently, looked, acted}
 use Rattle.deck.proofs.Cases.{looked-again}
 use Rattle.record.specs.declared.Entry.{Entry}
 use Rattle.record.specs.Entries.{entry, fits, handed, after_entry, says_to, run, said, is_deck, last_time}
 use Rattle.record.specs.Machine.{Waiting, waiting, some, await, took, awaited_after}
 use Rattle.record.proofs.Handed.{after_is, says_is, run-append, said-append}
-use Rattle.record.proofs.Lists.{and_both, le-or-lt, last_time-append}
+use Rattle.record.proofs.Lists.{and_both, last_time-append}
 use Rattle.record.proofs.Readings.{waits, Pass, Passes, deck_now, waiting_now, PassesNow, of-halves, waits-append, passes_append}
 use Rattle.record.proofs.Sane.{Sane, sane-now}
 use Rattle.marker.proofs.Forms.{formed-time}
@@ -193,7 +194,7 @@ module _ {es : List Entry} {t : ℕ} {d : Deck} {rs : List Reply} (x : Through e
   alone z = halves z (through-heard x e M f m (found z))
 
   beside : (r : Reply) → (looked d e.time).replies ≡ r ∷ [] → Finds d r → Goes (says_to d e) (after_entry d e)
-  beside r z y = halves z (⊎_elim there earlier (le-or-lt e.time r.due))
+  beside r z y = halves z (⊎_elim earlier there (cases_lt r.due e.time))
     where
       due : Dues t e.time (r ∷ E.replies)
       due = rw (says_is d e _ E (found z) refl) at (says-due d t e k f.later)

@@ -27,22 +27,21 @@ unpacked-are-bytes p =
 
 -- ---- the byte at a place, by the number that has it
 
-pub at_next : (a b : List ℕ) (i : ℕ) → length a ≡ 8 → get_or (a ++ b) (8 + i) 0 ≡ get_or b i 0
-at_next a b i e = subst (λ (n : ℕ). get_or (a ++ b) (n + i) 0 ≡ get_or b i 0) e (get_or-append-add a b i 0)
-
 module _ (p : Packed) where
   pub at_low : (i : ℕ) → i < 8 → get_or (unpacked p) i 0 ≡ get_or (low_bytes 8 p.low) i 0
   at_low i h = get_or-append (low_bytes 8 p.low) _ 0 i (rw length-low h)
 
   pub at_mid : (i : ℕ) → i < 8 → get_or (unpacked p) (8 + i) 0 ≡ get_or (low_bytes 8 p.mid) i 0
+  unfolding low_bytes
   at_mid i h =
-      at_next (low_bytes 8 p.low) _ i (length-low 8 p.low)
+      get_or-append-add (low_bytes 8 p.low) (low_bytes 8 p.mid ++ low_bytes 8 p.high) i 0
       ∙ get_or-append (low_bytes 8 p.mid) (low_bytes 8 p.high) 0 i (rw length-low h)
 
   pub at_high : (i : ℕ) → get_or (unpacked p) (8 + (8 + i)) 0 ≡ get_or (low_bytes 8 p.high) i 0
+  unfolding low_bytes
   at_high i =
-      at_next (low_bytes 8 p.low) _ (8 + i) (length-low 8 p.low)
-      ∙ at_next (low_bytes 8 p.mid) (low_bytes 8 p.high) i (length-low 8 p.mid)
+      get_or-append-add (low_bytes 8 p.low) (low_bytes 8 p.mid ++ low_bytes 8 p.high) (8 + i) 0
+      ∙ get_or-append-add (low_bytes 8 p.mid) (low_bytes 8 p.high) i 0
 
 -- ---- there and back
 

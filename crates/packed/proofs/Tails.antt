@@ -7,14 +7,14 @@ use native.Mathlib.Nat.{zero-add}
 use native.Mathlib.Omega.{arith}
 use lib.Bits.{bit_or}
 use lib.ListN.{length, take, get_or, length-append, get_or-append, get_or-eq_default}
-use lib.Seq.{take_all, take-take, length-take-le, get_or-take, ext_get_or}
+use lib.Seq.{take_all, take-take, length-take-le, get_or-append-add, get_or-take, ext_get_or}
 use Rattle.packed.specs.declared.Tail.{Tail}
 use Rattle.packed.specs.Numbers.{low_first, low_bytes}
 use Rattle.packed.specs.Tail.{recent, kept, backward, latest}
 use Rattle.packed.proofs.Bytes.{Bytes, front, joined}
 use Rattle.packed.proofs.Numbers.{length-low, low-are-bytes, low-at, low-cut, window, low_part}
 use Rattle.packed.proofs.Units.{up}
-use Rattle.packed.proofs.Packing.{at_next, part_at}
+use Rattle.packed.proofs.Packing.{part_at}
 
 -- ---- a byte comes
 
@@ -56,7 +56,8 @@ module _ (t : Tail) where
   at_low i h = get_or-append (low_bytes 8 t.low) _ 0 i (rw length-low h)
 
   pub at_high : (i : ℕ) → get_or (recent t) (8 + i) 0 ≡ get_or (low_bytes 8 t.high) i 0
-  at_high i = at_next (low_bytes 8 t.low) (low_bytes 8 t.high) i (length-low 8 t.low)
+  unfolding low_bytes
+  at_high i = get_or-append-add (low_bytes 8 t.low) (low_bytes 8 t.high) i 0
 
 -- what was kept of a list, byte by byte
 pub kept_at : (l : List ℕ) → Bytes l → (i : ℕ) → i < 16 → get_or (recent (kept l)) i 0 ≡ get_or l i 0

@@ -8,6 +8,7 @@ use mathlib.Core.List.{List, [], ◌∷◌, ◌++◌, append-nil, nil≢cons, co
 use native.Mathlib.Omega.{arith}
 use lib.Dec.{T}
 use lib.ListN.{length}
+use Rattle.std.proofs.lemmas.Bool.{cases_lt}
 use Rattle.settings.specs.declared.Settings.{Settings}
 use Rattle.execute.specs.Replies.{nak, opens_quiet}
 use Rattle.execute.specs.Execute.{execute}
@@ -20,7 +21,7 @@ use Rattle.record.specs.Entries.{entry, WellFormed, handed, run, said, is_contro
 use Rattle.record.specs.Turns.{Clean}
 use Rattle.record.specs.Marks.{look_at}
 use Rattle.record.proofs.Handed.{taped, acted-tape, said-is, said-silent}
-use Rattle.record.proofs.Lists.{true_of, le-or-lt, of_kind-append, first-left, Ordered, ordered-all, ordered-first}
+use Rattle.record.proofs.Lists.{true_of, of_kind-append, first-left, Ordered, ordered-all, ordered-first}
 use Rattle.record.specs.Machine.{waiting, begins_at}
 use Rattle.record.proofs.Readings.{waits, marks, Pass, Passes, peek_is}
 use Rattle.record.proofs.Opening.{Dirty, Rest}
@@ -52,7 +53,7 @@ silent-late e es o l f s lat t₀ t left b or y h =
 
 silent-step : (k fl c tm : ℕ) (es : List Entry) → SilentRun es → SilentRun (entry k fl c tm ∷ es)
 unfolding of_kind said
-silent-step k fl c tm es ih o l f s lat t₀ t left b or i y n = go (le-or-lt tm (l + 10000))
+silent-step k fl c tm es ih o l f s lat t₀ t left b or i y n = go (cases_lt (l + 10000) tm)
   where
     d : Deck
     d = deck o l f s
@@ -71,23 +72,23 @@ silent-step k fl c tm es ih o l f s lat t₀ t left b or i y n = go (le-or-lt tm
         (ih o l f (taped k e s) lat tm t left b or.1 i (record { on_time = y.on_time; bytes = y.bytes; others = y.others })
         (λ m. n (said-silent (es ++ look_at t ∷ []) d (deck o l f (taped k e s)) e q w ∙ m)))
 
-    go : (tm ≤ l + 10000) ⊎ (l + 10000 < tm)
+    go : (l + 10000 < tm) ⊎ (tm ≤ l + 10000)
         → Ran d (waiting [] lat) (entry k fl c tm ∷ es) t₀ t left (deadline (expiry l) (entry k fl c tm ∷ es)) (expiry l)
-    go (inl h) = early k h i y n
-    go (inr h) = silent-late (entry k fl c tm) es o l f s lat t₀ t left b or y h
+    go (inr h) = early k h i y n
+    go (inl h) = silent-late (entry k fl c tm) es o l f s lat t₀ t left b or y h
 
 -- or at the end
 silent-end : (o : List ℕ) (l f : ℕ) (s : Settings) (lat t₀ t : ℕ) (left : List ℕ) → T (is_open o) → left ≡ (expiry l).bytes
     → (said (deck o l f s) (look_at t ∷ []) ≡ [] → ⊥) → Ran (deck o l f s) (waiting [] lat) [] t₀ t left (l + 10001 + 9000) (expiry l)
 unfolding run waits marks Passes said
-silent-end o l f s lat t₀ t left b p n = go (le-or-lt t (l + 10000))
+silent-end o l f s lat t₀ t left b p n = go (cases_lt (l + 10000) t)
   where
     d : Deck
     d = deck o l f s
 
-    go : (t ≤ l + 10000) ⊎ (l + 10000 < t) → Ran d (waiting [] lat) [] t₀ t left (l + 10001 + 9000) (expiry l)
-    go (inl h) = absurd (n (said-silent [] d d (look_at t) (look-early d t h) (acted-other d (look t) tt)))
-    go (inr h) =
+    go : (l + 10000 < t) ⊎ (t ≤ l + 10000) → Ran d (waiting [] lat) [] t₀ t left (l + 10001 + 9000) (expiry l)
+    go (inr h) = absurd (n (said-silent [] d d (look_at t) (look-early d t h) (acted-other d (look t) tt)))
+    go (inl h) =
         let q : looked d t ≡ expired l s = looked-late d t b h in
         record {
           shut = rw q;
@@ -110,7 +111,7 @@ SilentReply es =
 
 silent-reply-step : (k fl c tm : ℕ) (es : List Entry) → SilentReply es → SilentReply (entry k fl c tm ∷ es)
 unfolding of_kind said
-silent-reply-step k fl c tm es ih o l f s r rs b i p = go (le-or-lt tm (l + 10000))
+silent-reply-step k fl c tm es ih o l f s r rs b i p = go (cases_lt (l + 10000) tm)
   where
     d : Deck
     d = deck o l f s
@@ -125,9 +126,9 @@ silent-reply-step k fl c tm es ih o l f s r rs b i p = go (le-or-lt tm (l + 1000
         let D : Deck = deck o l f (taped k e s) in
         ih o l f (taped k e s) r rs b i (sym (said-silent es d D e (look-early d tm h) (acted-tape k d e)) ∙ p)
 
-    go : (tm ≤ l + 10000) ⊎ (l + 10000 < tm) → r ≡ expiry l
-    go (inl h) = early k h i p
-    go (inr h) =
+    go : (l + 10000 < tm) ⊎ (tm ≤ l + 10000) → r ≡ expiry l
+    go (inr h) = early k h i p
+    go (inl h) =
         let e : Entry = entry k fl c tm in
         let L : Answer = expired l s in
         head-eq_of_cons-eq (sym p ∙ said-is es d e L (acted L.deck (handed e)) (looked-late d tm b h) refl)

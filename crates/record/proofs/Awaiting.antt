@@ -5,6 +5,7 @@ use mathlib.Core.Logic.{◌⊎◌, inl, inr}
 use mathlib.Core.List.{List, [], ◌∷◌, ◌++◌, append_assoc}
 use lib.Dec.{T}
 use lib.ListN.{length}
+use Rattle.std.proofs.lemmas.Bool.{cases_lt}
 use Rattle.deck.specs.Line.{Deck, deck, at_power_on, looked}
 use Rattle.deck.proofs.Steps.{look-shut, look-early}
 use Rattle.deck.proofs.Cases.{looked-late}
@@ -13,7 +14,7 @@ use Rattle.record.specs.Entries.{run, last_time}
 use Rattle.record.specs.Turns.{concat, starts_from}
 use Rattle.record.specs.Marks.{look_at, Awaited}
 use Rattle.record.proofs.Handed.{run-append}
-use Rattle.record.proofs.Lists.{le-or-lt, Ordered, ordered-right, last_time-append}
+use Rattle.record.proofs.Lists.{Ordered, ordered-right, last_time-append}
 use Rattle.record.specs.Machine.{Waiting, waiting, some, await, peek}
 use Rattle.record.proofs.Readings.{waits, deck_now, waiting_now, PassesNow, waits-append}
 use Rattle.record.proofs.Coming.{deadline, QuietFrom}
@@ -78,11 +79,11 @@ shut-while-awaited d w t u z h = go d.block z h
 
     go : (o : List ℕ) → Sane u (with o) w → T (some (await (looked (with o) t).replies w).left) → (looked (with o) t).deck.block ≡ []
     go [] z h = rw (look-shut (with []) t refl)
-    go (x ∷ o) z h = late (le-or-lt t (d.last + 10000))
+    go (x ∷ o) z h = late (cases_lt (d.last + 10000) t)
       where
-        late : (t ≤ d.last + 10000) ⊎ (d.last + 10000 < t) → (looked (with (x ∷ o)) t).deck.block ≡ []
-        late (inl i) = absurd (rw (look-early (with (x ∷ o)) t i, (z.opened tt).none) at h)
-        late (inr i) = rw (looked-late (with (x ∷ o)) t tt i)
+        late : (d.last + 10000 < t) ⊎ (t ≤ d.last + 10000) → (looked (with (x ∷ o)) t).deck.block ≡ []
+        late (inr i) = absurd (rw (look-early (with (x ∷ o)) t i, (z.opened tt).none) at h)
+        late (inl i) = rw (looked-late (with (x ∷ o)) t tt i)
 
 pub awaited-now : (es : List Entry) (t next : ℕ) (to_come : List ℕ) → PassesNow es → last_time 0 es ≤ t
     → (peek (deck_now es) (waiting_now es) t).left ≡ next ∷ to_come → Awaited es t

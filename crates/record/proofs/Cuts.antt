@@ -8,6 +8,7 @@ use mathlib.Core.List.{List, [], ◌∷◌, ◌++◌, nil≢cons, cons≢nil}
 use native.Mathlib.Omega.{arith}
 use lib.Dec.{T}
 use lib.ListN.{length, drop}
+use Rattle.std.proofs.lemmas.Bool.{cases_lt}
 use Rattle.settings.specs.declared.Settings.{Settings}
 use Rattle.execute.specs.Replies.{nak, opens_quiet}
 use Rattle.execute.specs.Execute.{execute}
@@ -21,7 +22,7 @@ use Rattle.record.specs.Entries.{entry, handed, run, said, is_controller, of_kin
 use Rattle.record.specs.Turns.{Clean, InQuiet, concat}
 use Rattle.record.specs.Marks.{look_at}
 use Rattle.record.proofs.Handed.{taped, acted-tape, said-is, said-silent, run_is, run-silent, said-look, after_look}
-use Rattle.record.proofs.Lists.{le-or-lt, first-map, first-append, Ordered, ordered-left, ordered-last, ordered-first}
+use Rattle.record.proofs.Lists.{first-map, first-append, Ordered, ordered-left, ordered-last, ordered-first}
 use Rattle.record.specs.Machine.{Waiting, waiting}
 use Rattle.record.proofs.Readings.{waits, Pass, peek_is, heard-alone, ordered-of-passes}
 use Rattle.record.proofs.Opening.{Dirty, clean-or-not, Rest, opening-of-started}
@@ -177,7 +178,7 @@ shut-own e es l f s s' now now' lat lat' t left q u b y a =
 
 shut-cut-step : (k fl c tm : ℕ) (es : List Entry) → ShutCut es → OpenCut es → ShutCut (entry k fl c tm ∷ es)
 unfolding of_kind said run
-shut-cut-step zero fl c tm es ih_s ih_o l f s now lat t₀ t left g = go (le-or-lt f tm)
+shut-cut-step zero fl c tm es ih_s ih_o l f s now lat t₀ t left g = go (cases_lt tm f)
   where
     e : Entry
     e = entry 0 fl c tm
@@ -205,12 +206,12 @@ shut-cut-step zero fl c tm es ih_s ih_o l f s now lat t₀ t left g = go (le-or-
     begins : f ≤ tm → now ≡ [] → ShutParts d f now lat (e ∷ es) t left
     begins h z = begun h z (start-cut fl c tm es ih_s ih_o l f s lat t₀ t left h (rw z at g))
 
-    go : (f ≤ tm) ⊎ (tm < f) → ShutParts d f now lat (e ∷ es) t left
-    go (inr h) =
+    go : (tm < f) ⊎ (f ≤ tm) → ShutParts d f now lat (e ∷ es) t left
+    go (inl h) =
         let w : acted d (handed e) ≡ silently d = acted-dropped d tm c fl h in
         let u = ih_s l f s now lat tm t left (going-tail p w g) in
         shut-own e es l f s s now now lat lat t left w u u.bytes u.timely (h, u.others)
-    go (inl h) = begins h (heard-alone t₀ d now lat e tt h (going-head p g))
+    go (inr h) = begins h (heard-alone t₀ d now lat e tt h (going-head p g))
 shut-cut-step (suc zero) fl c tm es ih_s ih_o l f s now lat t₀ t left g =
     let e : Entry = entry 1 fl c tm in
     let p = look-shut (deck [] l f s) tm refl in
@@ -321,14 +322,14 @@ open-cut-late e es ih_s o l f s lat t₀ t left b h g =
 -- or at the end
 open-cut-end : OpenCut []
 unfolding of_kind said run waits
-open-cut-end o l f s lat t₀ t left b k f≤ l≤ g = go (le-or-lt t (l + 10000))
+open-cut-end o l f s lat t₀ t left b k f≤ l≤ g = go (cases_lt (l + 10000) t)
   where
     d : Deck
     d = deck o l f s
 
-    go : (t ≤ l + 10000) ⊎ (l + 10000 < t) → OpenParts d o l [] t left
-    go (inl h) = absurd (subst (λ (x : List ℕ). T (is_open x)) (rw (look-early d t h) at g.shut) b)
-    go (inr h) =
+    go : (l + 10000 < t) ⊎ (t ≤ l + 10000) → OpenParts d o l [] t left
+    go (inr h) = absurd (subst (λ (x : List ℕ). T (is_open x)) (rw (look-early d t h) at g.shut) b)
+    go (inl h) =
         let q : looked d t ≡ expired l s = looked-late d t b h in
         record {
           head = [];
@@ -375,7 +376,7 @@ open-cut-early : (k fl c tm : ℕ) (es : List Entry) → ShutCut es → OpenCut 
     → T (is_open o) → length o < size o → f ≤ l → l ≤ t₀ → tm ≤ l + 10000
     → Going t₀ (deck o l f s) (waiting [] lat) (entry k fl c tm ∷ es) t left → OpenParts (deck o l f s) o l (entry k fl c tm ∷ es) t left
 unfolding of_kind
-open-cut-early zero fl c tm es ih_s ih_o o l f s lat t₀ t left b k f≤ l≤ h g = go (clean-or-not e) (le-or-lt (size o) (suc (length o)))
+open-cut-early zero fl c tm es ih_s ih_o o l f s lat t₀ t left b k f≤ l≤ h g = go (clean-or-not e) (cases_lt (suc (length o)) (size o))
   where
     e : Entry
     e = entry 0 fl c tm
@@ -410,16 +411,16 @@ open-cut-early zero fl c tm es ih_s ih_o o l f s lat t₀ t left b k f≤ l≤ h
           more = u.more;
         }
 
-    go : Clean e ⊎ Dirty e → (size o ≤ suc (length o)) ⊎ (suc (length o) < size o) → OpenParts d o l (e ∷ es) t left
+    go : Clean e ⊎ Dirty e → (suc (length o) < size o) ⊎ (size o ≤ suc (length o)) → OpenParts d o l (e ∷ es) t left
     go (inr n) z =
         ends l (free_after (opens_quiet fl) tm f) s (nak fl) (opens_quiet fl) (acted-flagged d tm c fl j n)
         (quiet-replied (opens_quiet fl) (nak fl) tm f j) (λ _. (h, inl (n, refl)))
-    go (inl n) (inl z) =
+    go (inl n) (inr z) =
         let x = execute s (o ++ c ∷ []) in
         let z' : suc (length o) ≡ size o = omega arith in
         ends tm (free_after x.quiets tm f) x.settings x.bytes x.quiets (acted-last d tm c fl b j n z)
         (quiet-replied x.quiets x.bytes tm f j) (λ _. (h, inr (n, inl (z', refl))))
-    go (inl n) (inr z) =
+    go (inl n) (inl z) =
         let o' : List ℕ = o ++ c ∷ [] in
         let w : acted d (handed e) ≡ silently (deck o' tm f s) = acted-more d tm c fl b j n z in
         let m : length o' < size o' = rw (length_more o c, size-more o c b) z in
@@ -447,12 +448,12 @@ open-cut-early (suc (suc k)) fl c tm es ih_s ih_o o l f s lat t₀ t left b k≤
     open_own e es o o l l f s (taped k e s) t left q w u u.silent u.rest
 
 open-cut-step : (e : Entry) (es : List Entry) → ShutCut es → OpenCut es → ShutCut (e ∷ es) → OpenCut (e ∷ es)
-open-cut-step e es ih_s ih_o S o l f s lat t₀ t left b k f≤ l≤ g = go (le-or-lt e.time (l + 10000))
+open-cut-step e es ih_s ih_o S o l f s lat t₀ t left b k f≤ l≤ g = go (cases_lt (l + 10000) e.time)
   where
-    go : (e.time ≤ l + 10000) ⊎ (l + 10000 < e.time) → OpenParts (deck o l f s) o l (e ∷ es) t left
-    go (inl h) =
+    go : (l + 10000 < e.time) ⊎ (e.time ≤ l + 10000) → OpenParts (deck o l f s) o l (e ∷ es) t left
+    go (inr h) =
         open-cut-early e.kind e.flags e.content e.time es ih_s ih_o o l f s lat t₀ t left b k f≤ l≤ h g
-    go (inr h) = open-cut-late e es S o l f s lat t₀ t left b h g
+    go (inl h) = open-cut-late e es S o l f s lat t₀ t left b h g
 
 -- ---- both
 

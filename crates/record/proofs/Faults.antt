@@ -7,12 +7,13 @@ use mathlib.Core.List.{List, [], ◌∷◌}
 use native.Mathlib.Omega.{arith}
 use lib.Dec.{T, T_not, not_T, eqb, ltb, leb, eqb→eq, eqb_refl, ltb→lt, lt→ltb, leb→le, le→leb}
 use lib.ListN.{get_or}
+use Rattle.std.proofs.lemmas.Bool.{cases_lt}
 use Rattle.deck.specs.Line.{Deck, at_power_on, looked}
 use Rattle.record.specs.declared.Entry.{Entry}
 use Rattle.record.specs.Entries.{formed, is_controller, is_deck, last_time}
 use Rattle.record.specs.Turns.{InQuiet}
 use Rattle.record.specs.Marks.{Awaited, Overdue, faults, FirstOf}
-use Rattle.record.proofs.Lists.{and_left, and_right, and_both, le-or-lt}
+use Rattle.record.proofs.Lists.{and_left, and_right, and_both}
 use Rattle.record.specs.Machine.{Waiting, waiting, some, peek, first_true, tests, fault_of}
 use Rattle.record.proofs.Readings.{Pass, deck_now, waiting_now, PassesNow, ordered-of-passes}
 use Rattle.record.proofs.Coming.{deadline}
@@ -91,18 +92,18 @@ holds b n = go (holds-or-not b)
     go (inr h) = absurd (n (not_T b h))
 
 not-before : (a b : ℕ) → (T (ltb b a) → ⊥) → a ≤ b
-not-before a b n = go (le-or-lt a b)
+not-before a b n = go (cases_lt b a)
   where
-    go : (a ≤ b) ⊎ (b < a) → a ≤ b
-    go (inl h) = h
-    go (inr h) = absurd (n (lt→ltb b a h))
+    go : (b < a) ⊎ (a ≤ b) → a ≤ b
+    go (inr h) = h
+    go (inl h) = absurd (n (lt→ltb b a h))
 
 not-from : (a b : ℕ) → (T (leb a b) → ⊥) → b < a
-not-from a b n = go (le-or-lt a b)
+not-from a b n = go (cases_lt b a)
   where
-    go : (a ≤ b) ⊎ (b < a) → b < a
-    go (inl h) = absurd (n (le→leb a b h))
-    go (inr h) = h
+    go : (b < a) ⊎ (a ≤ b) → b < a
+    go (inr h) = absurd (n (le→leb a b h))
+    go (inl h) = h
 
 -- ---- passing
 
@@ -275,15 +276,15 @@ module _ (es : List Entry) (p : PassesNow es) (e : Entry) where
           λ q. let u : e.time < F = ((agrees a).quiet e.time h).0 q in omega (arith, leb→le F e.time (and_right any x j)),
         ),
     λ k. and_both (is_controller e.kind) (any && x) ((is-controller e.kind).1 k.1)
-        (and_both any x (any_of k.0) (le→leb F e.time (open-air k.0 k.2 (le-or-lt F e.time)))),
+        (and_both any x (any_of k.0) (le→leb F e.time (open-air k.0 k.2 (cases_lt e.time F)))),
   )
     where
       x : Bool
       x = leb F e.time
 
-      open-air : (a : Awaited es e.time) → (InQuiet a.reply e.time → ⊥) → (F ≤ e.time) ⊎ (e.time < F) → F ≤ e.time
-      open-air a n (inl g) = g
-      open-air a n (inr g) = absurd (n (((agrees a).quiet e.time h).1 g))
+      open-air : (a : Awaited es e.time) → (InQuiet a.reply e.time → ⊥) → (e.time < F) ⊎ (F ≤ e.time) → F ≤ e.time
+      open-air a n (inr g) = g
+      open-air a n (inl g) = absurd (n (((agrees a).quiet e.time h).1 g))
 
   pub number : (fault_now es e ≡ 0 → ⊥) → FirstOf (faults es e) (fault_now es e)
   unfolding fault_of tests W F any

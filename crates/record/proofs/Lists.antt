@@ -1,12 +1,10 @@
 -- Lists of entries: kinds, orders, times; and lists of bytes.
-use Prim.Native.Nat.{ℕ, ◌≤◌, ◌<◌}
+use Prim.Native.Nat.{ℕ, ◌≤◌}
 use mathlib.Core.Path.{◌≡◌, refl}
 use mathlib.Core.List.{List, [], ◌∷◌, ◌++◌}
 use mathlib.Core.Bool.{Bool, true, false, ◌&&◌}
 use native.Mathlib.Omega.{arith}
-use lib.Dec.{T, leb}
-use mathlib.Core.Logic.{◌⊎◌, inl, inr}
-use borrow.Author.Tests.{leb-true, leb-false}
+use lib.Dec.{T}
 use Rattle.record.specs.declared.Entry.{Entry}
 use Rattle.record.specs.Entries.{All, First, Steps, keep, last_time, of_kind}
 
@@ -25,13 +23,6 @@ and_right false b h = absurd h
 pub and_both : (a b : Bool) → T a → T b → T (a && b)
 and_both true b h k = k
 and_both false b h k = h
-
-pub le-or-lt : (a b : ℕ) → (a ≤ b) ⊎ (b < a)
-le-or-lt a b = go (leb a b) refl
-  where
-    go : (x : Bool) → leb a b ≡ x → (a ≤ b) ⊎ (b < a)
-    go true p = inl (leb-true a b p)
-    go false p = inr (leb-false a b p)
 
 -- ---- of a kind
 

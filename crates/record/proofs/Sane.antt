@@ -6,6 +6,7 @@ use mathlib.Core.List.{List, [], ◌∷◌, ◌++◌, nil≢cons}
 use native.Mathlib.Omega.{arith}
 use lib.Dec.{T, eqb, ltb, ltb→lt, lit<}
 use lib.ListN.{length}
+use Rattle.std.proofs.lemmas.Bool.{cases_lt}
 use Rattle.settings.specs.declared.Settings.{Settings}
 use Rattle.execute.specs.Replies.{nak, time_out}
 use Rattle.execute.specs.Execute.{execute}
@@ -19,7 +20,7 @@ use Rattle.deck.specs.Calls.{flags_fit}
 use Rattle.record.specs.Entries.{entry, fits, WellFormed, handed, after_entry, run, last_time}
 use Rattle.record.specs.Turns.{Clean}
 use Rattle.record.proofs.Handed.{taped, acted-tape}
-use Rattle.record.proofs.Lists.{and_left, and_right, le-or-lt}
+use Rattle.record.proofs.Lists.{and_left, and_right}
 use Rattle.record.specs.Machine.{Waiting, waiting, some, awaited_after, advance}
 use Rattle.record.proofs.Readings.{waits, Pass, Passes, deck_now, waiting_now, PassesNow, of-halves, pass-look, heard-alone}
 use Rattle.record.proofs.Opening.{Dirty, clean-or-not}
@@ -66,7 +67,7 @@ Keeps d w e = (E : Answer) × (acted d (handed e) ≡ E) × Sane e.time E.deck (
 -- with no block open
 keeps-shut : (k fl c tm : ℕ) (l f : ℕ) (s : Settings) (now : List ℕ) (lat t : ℕ) → Bytes now
     → Pass t (silently (deck [] l f s)) (waiting now lat) (entry k fl c tm) → Keeps (deck [] l f s) (waiting now lat) (entry k fl c tm)
-keeps-shut zero fl c tm l f s now lat t a v = go (le-or-lt f tm) (clean-or-not e)
+keeps-shut zero fl c tm l f s now lat t a v = go (cases_lt tm f) (clean-or-not e)
   where
     e : Entry
     e = entry 0 fl c tm
@@ -74,13 +75,13 @@ keeps-shut zero fl c tm l f s now lat t a v = go (le-or-lt f tm) (clean-or-not e
     d : Deck
     d = deck [] l f s
 
-    go : (f ≤ tm) ⊎ (tm < f) → Clean e ⊎ Dirty e → Keeps d (waiting now lat) e
-    go (inr h) n = (
+    go : (tm < f) ⊎ (f ≤ tm) → Clean e ⊎ Dirty e → Keeps d (waiting now lat) e
+    go (inl h) n = (
       silently d,
       acted-dropped d tm c fl h,
       record { small = time-small e v.well_formed; in_time = v.in_time; bytes = a; opened = λ n. absurd n },
     )
-    go (inl h) (inr n) = (
+    go (inr h) (inr n) = (
       voided d fl tm,
       acted-flagged d tm c fl h n,
       record {
@@ -90,7 +91,7 @@ keeps-shut zero fl c tm l f s now lat t a v = go (le-or-lt f tm) (clean-or-not e
         opened = λ n. absurd n;
       },
     )
-    go (inl h) (inl n) = (
+    go (inr h) (inl n) = (
       silently (deck (c ∷ []) tm f s),
       acted-first l f s tm c fl h n,
       record {
@@ -127,7 +128,7 @@ keeps-shut (suc (suc k)) fl c tm l f s now lat t a v =
 keeps-open : (k fl c tm : ℕ) (o : List ℕ) (l f : ℕ) (s : Settings) (lat t : ℕ) → T (is_open o) → Opened t (deck o l f s) (waiting [] lat)
     → tm ≤ l + 10000 → Pass t (silently (deck o l f s)) (waiting [] lat) (entry k fl c tm)
     → Keeps (deck o l f s) (waiting [] lat) (entry k fl c tm)
-keeps-open zero fl c tm o l f s lat t b z h v = go (clean-or-not e) (le-or-lt (size o) (suc (length o)))
+keeps-open zero fl c tm o l f s lat t b z h v = go (clean-or-not e) (cases_lt (suc (length o)) (size o))
   where
     e : Entry
     e = entry 0 fl c tm
@@ -138,7 +139,7 @@ keeps-open zero fl c tm o l f s lat t b z h v = go (clean-or-not e) (le-or-lt (s
     j : f ≤ tm
     j = omega (arith, z, v.ordered)
 
-    go : Clean e ⊎ Dirty e → (size o ≤ suc (length o)) ⊎ (suc (length o) < size o) → Keeps d (waiting [] lat) e
+    go : Clean e ⊎ Dirty e → (suc (length o) < size o) ⊎ (size o ≤ suc (length o)) → Keeps d (waiting [] lat) e
     go (inr n) y = (
       voided d fl tm,
       acted-flagged d tm c fl j n,
@@ -149,12 +150,12 @@ keeps-open zero fl c tm o l f s lat t b z h v = go (clean-or-not e) (le-or-lt (s
         opened = λ n. absurd n;
       },
     )
-    go (inl n) (inl y) = (
+    go (inl n) (inr y) = (
       replied d tm (execute s (o ++ c ∷ [])),
       acted-last d tm c fl b j n y,
       record { small = time-small e v.well_formed; in_time = λ _. omega arith; bytes = reply-bytes s (o ++ c ∷ []); opened = λ n. absurd n },
     )
-    go (inl n) (inr y) = (
+    go (inl n) (inl y) = (
       silently (deck (o ++ c ∷ []) tm f s),
       acted-more d tm c fl b j n y,
       record {
@@ -204,7 +205,7 @@ sane-shut t l f s w e a v =
 
 sane-open : (t : ℕ) (o : List ℕ) (l f : ℕ) (s : Settings) (lat : ℕ) (e : Entry) → T (is_open o) → Opened t (deck o l f s) (waiting [] lat)
     → Pass t (looked (deck o l f s) e.time) (waiting [] lat) e → SaneAfter (deck o l f s) (waiting [] lat) e
-sane-open t o l f s lat e b y v = go (le-or-lt e.time (l + 10000))
+sane-open t o l f s lat e b y v = go (cases_lt (l + 10000) e.time)
   where
     D : Deck
     D = deck o l f s
@@ -212,13 +213,13 @@ sane-open t o l f s lat e b y v = go (le-or-lt e.time (l + 10000))
     w : Waiting
     w = waiting [] lat
 
-    go : (e.time ≤ l + 10000) ⊎ (l + 10000 < e.time) → SaneAfter D w e
-    go (inl h) =
+    go : (l + 10000 < e.time) ⊎ (e.time ≤ l + 10000) → SaneAfter D w e
+    go (inr h) =
         let p : looked D e.time ≡ silently D = look-early D e.time h in
         let v' : Pass t (silently D) w e = subst (λ (A : Answer). Pass t A w e) p v in
         let u = keeps-open e.kind e.flags e.content e.time o l f s lat t b y h v' in
         of-halves (Sane e.time) D w e (silently D) u.0 p u.1 u.2
-    go (inr h) =
+    go (inl h) =
         let L : Answer = expired l s in
         let p : looked D e.time ≡ L = looked-late D e.time b h in
         let v' = (pass-look t L.deck w e L.replies).0 (subst (λ (A : Answer). Pass t A w e) p v) in

@@ -7,10 +7,10 @@ use mathlib.Core.List.{List, [], ◌∷◌, ◌++◌, append_assoc}
 use native.Mathlib.Omega.{arith}
 use lib.ListN.{length, take, drop, get_or, take-append-drop}
 use lib.Seq.{take-suc, take-take, drop-cons}
+use Rattle.std.proofs.lemmas.Bool.{cases_lt}
 use Rattle.record.specs.declared.Entry.{Entry}
 use Rattle.record.specs.Bytes.{no_entry}
 use Rattle.record.specs.Marks.{Extends, faults, FirstOf, FaultAt, Marked, Demand3}
-use Rattle.record.proofs.Lists.{le-or-lt}
 
 -- ---- the place
 
@@ -30,12 +30,12 @@ no-earlier {es} {f} {p} {g} {q} a b h =
     a.marked.stops (get_or es p no_entry) (drop (suc p) es) (drop-cons es p no_entry l) (rw (take-suc es p no_entry l) at x)
 
 same_place : {es : List Entry} {f p g q : ℕ} {ss ts : List ℕ} → Demand3 es f p ss → Demand3 es g q ts → p ≡ q
-same_place {es} {f} {p} {g} {q} a b = go (le-or-lt p q) (le-or-lt q p)
+same_place {es} {f} {p} {g} {q} a b = go (cases_lt p q) (cases_lt q p)
   where
-    go : (p ≤ q) ⊎ (q < p) → (q ≤ p) ⊎ (p < q) → p ≡ q
-    go (inl h) (inl k) = omega arith
-    go (inl h) (inr k) = absurd (no-earlier a b k)
-    go (inr h) k = absurd (no-earlier b a h)
+    go : (p < q) ⊎ (q ≤ p) → (q < p) ⊎ (p ≤ q) → p ≡ q
+    go (inl h) k = absurd (no-earlier a b h)
+    go (inr h) (inl k) = absurd (no-earlier b a k)
+    go (inr h) (inr k) = omega arith
 
 -- ---- the fault
 
