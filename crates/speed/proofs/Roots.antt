@@ -1,18 +1,19 @@
 -- What the code makes of its roots, by two tests that antt computes: each root fits a u32, and each byte but 0 gets its speed.
 use mathlib.Core.Path.{◌≡◌, refl}
-use mathlib.Core.Bool.{Bool}
+use mathlib.Core.Bool.{Bool, true}
 use mathlib.Core.List.{List}
 use Prim.Native.Nat.{ℕ, zero, suc, ◌+◌, ◌*◌, ◌/◌, ◌%◌, ◌^◌, ◌≤◌, ◌<◌}
 use native.Mathlib.Nat.{le_of_lt, mul-le-mul, pow-le-pow_right}
 use native.Mathlib.Omega.{arith}
-use lib.Dec.{T, eqb, eqb→eq, ltb, ltb→lt}
+use lib.Dec.{eqb, ltb}
 use lib.IntN.{pos}
 use lib.ListN.{get_or}
 use mir.Syntax.{w32, w64}
 use mir.Val.{Fits, SFits, to_z}
 use mir.ValLaws.{to_z_pos}
+use Rattle.std.proofs.lemmas.Bool.{agree_below, agree_below_at, eqb-true, ltb-true}
 use Rattle.speed.specs.Speed.{speed_of}
-use Rattle.speed.proofs.Rule.{all, below, small}
+use Rattle.speed.proofs.Rule.{small}
 
 abbrev tens : ℕ → ℕ
 tens n = 10 ^ (n / 32 + 1)
@@ -25,10 +26,11 @@ product roots n ten = get_or roots (n % 32) 0 * ten
 unfoldable pub narrow : List ℕ → ℕ → Bool
 narrow roots k = ltb (get_or roots k 0) (2 ^ 32)
 
-module _ (roots : List ℕ) (pass : T (all (narrow roots) 32)) (n : ℕ) where
+module _ (roots : List ℕ) (pass : agree_below (narrow roots) (λ _. true) 32 ≡ true) (n : ℕ) where
   root-small : get_or roots (n % 32) 0 < 2 ^ 32
   unfolding narrow
-  root-small = ltb→lt (get_or roots (n % 32) 0) (2 ^ 32) (below (narrow roots) 32 pass (n % 32) (omega arith))
+  root-small =
+      ltb-true (get_or roots (n % 32) 0) (2 ^ 32) (agree_below_at (narrow roots) (λ _. true) 32 (n % 32) pass (omega arith))
 
   pub root-fits : Fits w64 (get_or roots (n % 32) 0)
   root-fits = record { fits = omega (arith, root-small) }
@@ -50,12 +52,15 @@ module _ (roots : List ℕ) (pass : T (all (narrow roots) 32)) (n : ℕ) where
 unfoldable pub right : List ℕ → ℕ → Bool
 right roots n = eqb (product roots (suc n) (tens (suc n)) / 268435456) (speed_of (suc n))
 
-module _ (roots : List ℕ) (pass : T (all (right roots) 255)) where
+module _ (roots : List ℕ) (pass : agree_below (right roots) (λ _. true) 255 ≡ true) where
   at : (n : ℕ) → (n ≡ 0 → ⊥) → n < 256 → product roots n (tens n) / 268435456 ≡ speed_of n
   unfolding right
   at zero some byte = absurd (some refl)
   at (suc n) some byte =
-      eqb→eq (product roots (suc n) (tens (suc n)) / 268435456) (speed_of (suc n)) (below (right roots) 255 pass n (omega arith))
+      eqb-true
+      (product roots (suc n) (tens (suc n)) / 268435456)
+      (speed_of (suc n))
+      (agree_below_at (right roots) (λ _. true) 255 n pass (omega arith))
 
   -- as the code reads it from its bits
   pub quotient-bits : (n ten : ℕ) → (n ≡ 0 → ⊥) → n < 256 → ten ≡ tens n
