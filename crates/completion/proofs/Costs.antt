@@ -9,12 +9,12 @@ use native.Mathlib.Omega.{arith}
 use lib.Dec.{leb}
 use lib.ListN.{length, length-append, length-map}
 use Rattle.std.proofs.lemmas.Bool.{cases_lt}
+use Rattle.std.proofs.lemmas.List.{length_push}
 use Rattle.execute.specs.Execute.{execute}
 use Rattle.execute.proofs.Replies.{reply-short}
 use Rattle.deck.specs.Line.{Event, byte, look, position, cassette, time_of, Deck, deck, at_power_on, Reply, Answer, is_open, size, taken, acted, answers}
 use Rattle.deck.specs.Calls.{reply_bytes}
 use Rattle.deck.proofs.Steps.{look-shut, look-cases, byte-cases, taken-full, taken_more, acted-byte, acted-other, answers-soon, answers-late}
-use Rattle.deck.proofs.Cases.{length_more}
 use Rattle.record.specs.declared.Entry.{Entry}
 use Rattle.record.specs.Entries.{entry, handed, after_entry, says_to}
 use Rattle.record.specs.Bytes.{entries_of}
@@ -44,10 +44,10 @@ module _ (d : Deck) where
       full : size block ≤ length block → Costs (taken d block t) (6 * length o + 6)
       full h =
           rw (taken-full d block t h, append-nil (execute d.settings block).bytes)
-          (omega (arith, length_more o b, size-least block, reply-short d.settings block))
+          (omega (arith, length_push o b, size-least block, reply-short d.settings block))
 
       more : length block < size block → Costs (taken d block t) (6 * length o + 6)
-      more h = rw (taken_more d block t h) (omega (arith, length_more o b))
+      more h = rw (taken_more d block t h) (omega (arith, length_push o b))
 
   acted-costs : (e : Event) → Costs (acted d e) (6 * length d.block + 6)
   acted-costs (byte t b flags) =

@@ -6,7 +6,8 @@ use mathlib.Core.Path.{◌≡◌, refl, ◌∙◌}
 use Prim.Native.Nat.{ℕ, suc, ◌+◌, ◌≤◌, ◌<◌}
 use native.Mathlib.Omega.{arith}
 use lib.Dec.{T}
-use lib.ListN.{length, length-append}
+use lib.ListN.{length}
+use Rattle.std.proofs.lemmas.List.{length_push}
 use Rattle.settings.specs.declared.Settings.{Settings}
 use Rattle.execute.specs.Replies.{nak, time_out}
 use Rattle.execute.specs.Execute.{execute}
@@ -54,9 +55,6 @@ pub size-more : (o : List ℕ) (b : ℕ) → T (is_open o) → size (o ++ b ∷ 
 size-more [] b h = absurd h
 size-more (x ∷ o) b h = refl
 
-pub length_more : (o : List ℕ) (b : ℕ) → length (o ++ b ∷ []) ≡ suc (length o)
-length_more o b = rw length-append (omega arith)
-
 -- ---- a byte
 
 module _ (d : Deck) (t b f : ℕ) where
@@ -74,13 +72,13 @@ module _ (d : Deck) (t b f : ℕ) where
   pub acted-more : T (is_open d.block) → d.free ≤ t → f ≡ 0 → suc (length d.block) < size d.block
       → acted d (byte t b f) ≡ silently (deck (d.block ++ b ∷ []) t d.free d.settings)
   acted-more o h c q =
-      acted-clean h c ∙ taken_more d (d.block ++ b ∷ []) t (rw (length_more d.block b, size-more d.block b o) q)
+      acted-clean h c ∙ taken_more d (d.block ++ b ∷ []) t (rw (length_push d.block b, size-more d.block b o) (omega (arith, q)))
 
   -- the last of an open block
   pub acted-last : T (is_open d.block) → d.free ≤ t → f ≡ 0 → size d.block ≤ suc (length d.block)
       → acted d (byte t b f) ≡ replied d t (execute d.settings (d.block ++ b ∷ []))
   acted-last o h c q =
-      acted-clean h c ∙ taken-full d (d.block ++ b ∷ []) t (rw (length_more d.block b, size-more d.block b o) q)
+      acted-clean h c ∙ taken-full d (d.block ++ b ∷ []) t (rw (length_push d.block b, size-more d.block b o) (omega (arith, q)))
 
 -- the first of a block
 pub acted-first : (l f₀ : ℕ) (s : Settings) (t b f : ℕ) → f₀ ≤ t → f ≡ 0

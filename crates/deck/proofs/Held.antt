@@ -8,6 +8,7 @@ use native.Mathlib.Omega.{arith}
 use borrow.Author.Tests.{ne_eqb, lt-ltb, le-ltb, le-leb, lt-leb}
 use lib.Dec.{eqb, leb, ltb}
 use lib.ListN.{length}
+use Rattle.std.proofs.lemmas.List.{length_push}
 use Rattle.packed.specs.declared.Tail.{Tail}
 use Rattle.packed.specs.Tail.{recent, kept, latest}
 use Rattle.packed.proofs.Tails.{length-latest, latest-most, latest-more}
@@ -18,7 +19,6 @@ use Rattle.deck.specs.Line.{deck, silently, is_open, size, replied, taken}
 use Rattle.deck.specs.Calls.{open_block, view}
 use Rattle.deck.specs.Joins.{grown}
 use Rattle.deck.proofs.Steps.{taken-full, taken_more}
-use Rattle.deck.proofs.Cases.{length_more}
 
 -- ---- the bytes that count
 
@@ -101,9 +101,9 @@ module _ (d : Held) (t b : ℕ) where
   pub stays_open : b < 256 → length (view d).block + 1 < size ((view d).block ++ b ∷ [])
       → taken (view d) ((view d).block ++ b ∷ []) t ≡ silently (view (grown d t b))
   stays_open k h =
-      taken_more (view d) ((view d).block ++ b ∷ []) t (rw (length_more (view d).block b) (omega (arith, h)))
+      taken_more (view d) ((view d).block ++ b ∷ []) t (rw (length_push (view d).block b) (omega (arith, h)))
       ∙ ap silently (sym (view-grown k (few-open h)))
 
   pub gets-full : size ((view d).block ++ b ∷ []) ≤ length (view d).block + 1
       → taken (view d) ((view d).block ++ b ∷ []) t ≡ replied (view d) t (execute d.settings ((view d).block ++ b ∷ []))
-  gets-full h = taken-full (view d) ((view d).block ++ b ∷ []) t (rw (length_more (view d).block b) (omega (arith, h)))
+  gets-full h = taken-full (view d) ((view d).block ++ b ∷ []) t (rw (length_push (view d).block b) (omega (arith, h)))

@@ -5,17 +5,19 @@ use mathlib.Core.Path.{◌≡◌, refl, sym, ap, ◌∙◌, subst}
 use mathlib.Core.Logic.{◌⊎◌, inl, inr}
 use mathlib.Core.Bool.{Bool, false}
 use mathlib.Core.List.{List, [], ◌∷◌, ◌++◌, append-nil, nil≢cons, cons≢nil, head-eq_of_cons-eq}
+use native.Mathlib.Numerals.{add-one}
 use native.Mathlib.Omega.{arith}
 use lib.Dec.{T}
 use lib.ListN.{length}
 use Rattle.std.proofs.lemmas.Bool.{cases_lt}
+use Rattle.std.proofs.lemmas.List.{length_push}
 use Rattle.settings.specs.declared.Settings.{Settings}
 use Rattle.execute.specs.Replies.{nak, opens_quiet}
 use Rattle.execute.specs.Execute.{execute}
 use Rattle.deck.specs.Line.{look, Deck, deck, Reply, Answer, silently, free_after, is_open, size, looked, acted}
 use Rattle.deck.specs.Events.{nak_at}
 use Rattle.deck.proofs.Steps.{look-shut, look-early, acted-other}
-use Rattle.deck.proofs.Cases.{expiry, expired, looked-late, open_more, size-more, length_more, acted-flagged, acted-more, acted-last}
+use Rattle.deck.proofs.Cases.{expiry, expired, looked-late, open_more, size-more, acted-flagged, acted-more, acted-last}
 use Rattle.record.specs.declared.Entry.{Entry}
 use Rattle.record.specs.Entries.{entry, WellFormed, handed, run, said, is_controller, is_deck, of_kind, controller, from_deck, First}
 use Rattle.record.specs.Turns.{Clean}
@@ -253,7 +255,7 @@ open_step zero fl c tm h ih tail more o l f s lat t₀ t left r b f≤ l≤ or n
         let w : acted d (handed e) ≡ silently D = acted-more d tm c fl b g u v in
         ran-cons q w bg pass
         (ih tail more (o ++ c ∷ []) tm f s lat tm t left r (open_more o c) g (omega arith) or.1 n
-        (rw (length_more o c, size-more o c b) m) (sym (said-silent ((h ++ tail) ++ look_at t ∷ []) d D e q w) ∙ z) y)
+        (rw (length_push o c, add-one (length o), size-more o c b) m) (sym (said-silent ((h ++ tail) ++ look_at t ∷ []) d D e q w) ∙ z) y)
 open_step (suc zero) fl c tm h ih tail more o l f s lat t₀ t left r b f≤ l≤ or n i z y = absurd (cons≢nil n)
 open_step (suc (suc k)) fl c tm h ih tail more o l f s lat t₀ t left r b f≤ l≤ or n i z y =
     go (early-or-done (controller h) (controller tail ++ more) (size o) (length o) l tm i

@@ -5,17 +5,19 @@ use mathlib.Core.Path.{◌≡◌, refl, sym, ap, ◌∙◌, subst, subst₂}
 use mathlib.Core.Logic.{◌⊎◌, inl, inr}
 use mathlib.Core.Bool.{Bool}
 use mathlib.Core.List.{List, [], ◌∷◌, ◌++◌, nil≢cons, cons≢nil}
+use native.Mathlib.Numerals.{add-one}
 use native.Mathlib.Omega.{arith}
 use lib.Dec.{T}
 use lib.ListN.{length, drop}
 use Rattle.std.proofs.lemmas.Bool.{cases_lt}
+use Rattle.std.proofs.lemmas.List.{length_push}
 use Rattle.settings.specs.declared.Settings.{Settings}
 use Rattle.execute.specs.Replies.{nak, opens_quiet}
 use Rattle.execute.specs.Execute.{execute}
 use Rattle.deck.specs.Line.{look, Deck, deck, Reply, Answer, silently, free_after, is_open, size, looked, acted}
 use Rattle.deck.specs.Events.{nak_at}
 use Rattle.deck.proofs.Steps.{look-shut, look-early, acted-other}
-use Rattle.deck.proofs.Cases.{expiry, expired, looked-late, open_more, size-more, length_more}
+use Rattle.deck.proofs.Cases.{expiry, expired, looked-late, open_more, size-more}
 use Rattle.deck.proofs.Cases.{acted-dropped, acted-flagged, acted-first, acted-more, acted-last}
 use Rattle.record.specs.declared.Entry.{Entry}
 use Rattle.record.specs.Entries.{entry, handed, run, said, is_controller, of_kind, controller, from_deck, contents, All, First}
@@ -423,7 +425,7 @@ open-cut-early zero fl c tm es ih_s ih_o o l f s lat t₀ t left b k f≤ l≤ h
     go (inl n) (inl z) =
         let o' : List ℕ = o ++ c ∷ [] in
         let w : acted d (handed e) ≡ silently (deck o' tm f s) = acted-more d tm c fl b j n z in
-        let m : length o' < size o' = rw (length_more o c, size-more o c b) z in
+        let m : length o' < size o' = rw (length_push o c, size-more o c b) (omega (arith, z)) in
         let u = ih_o o' tm f s lat tm t left (open_more o c) m j (omega arith) (going-tail q w g) in
         let later = controller u.tail ++ (controller (concat u.pieces) ++ ending u.pieces t) in
         open_own e es o o' l tm f s s t left q w u u.silent (
@@ -432,7 +434,7 @@ open-cut-early zero fl c tm es ih_s ih_o o l f s lat t₀ t left b k f≤ l≤ h
             n,
             inr (
               z,
-              subst₂ (λ (a b : ℕ). Rest a b tm (controller u.head) later) (size-more o c b) (length_more o c) u.rest,
+              subst₂ (λ (a b : ℕ). Rest a b tm (controller u.head) later) (size-more o c b) (length_push o c ∙ add-one (length o)) u.rest,
             ),
           ),
         )

@@ -5,13 +5,14 @@ use mathlib.Core.List.{List, [], ◌∷◌, ◌++◌}
 use native.Mathlib.Omega.{arith}
 use lib.Dec.{T, ltb, lt→ltb}
 use lib.ListN.{length}
+use Rattle.std.proofs.lemmas.List.{length_push}
 use Rattle.settings.specs.declared.Settings.{Settings}
 use Rattle.execute.specs.Execute.{execute}
 use Rattle.packed.proofs.Bytes.{Bytes}
 use Rattle.execute.proofs.Replies.{reply-bytes}
 use Rattle.deck.specs.Line.{look, Deck, deck, at_power_on, Answer, silently, replied, free_after, is_open, size, looked, acted}
 use Rattle.deck.proofs.Steps.{look-shut, look-early, acted-other}
-use Rattle.deck.proofs.Cases.{open_more, size-more, length_more, acted-more, acted-last}
+use Rattle.deck.proofs.Cases.{open_more, size-more, acted-more, acted-last}
 use Rattle.record.specs.declared.Entry.{Entry}
 use Rattle.record.specs.Entries.{entry, fits, WellFormed, handed, run, last_time}
 use Rattle.record.specs.Marks.{Extends}
@@ -89,7 +90,7 @@ finish-block (suc n) o l f s lat t b p h i j =
     let D' : Deck = deck (o ++ 0 ∷ []) t f s in
     finish-cons t D (waiting [] lat) (entry 0 0 0 t) (silently D) (silently D') (look-early D t i)
     (acted-more D t 0 0 b j refl (omega arith)) (zero-passes D lat t h)
-    (finish-block n (o ++ 0 ∷ []) t f s lat t (open_more o 0) (rw (length_more o 0, size-more o 0 b) (omega arith)) h
+    (finish-block n (o ++ 0 ∷ []) t f s lat t (open_more o 0) (rw (length_push o 0, size-more o 0 b) (omega arith)) h
     (omega arith) j)
 
 -- ---- both

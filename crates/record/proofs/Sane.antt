@@ -7,6 +7,7 @@ use native.Mathlib.Omega.{arith}
 use lib.Dec.{T, eqb, ltb, ltb→lt, lit<}
 use lib.ListN.{length}
 use Rattle.std.proofs.lemmas.Bool.{cases_lt}
+use Rattle.std.proofs.lemmas.List.{length_push}
 use Rattle.settings.specs.declared.Settings.{Settings}
 use Rattle.execute.specs.Replies.{nak, time_out}
 use Rattle.execute.specs.Execute.{execute}
@@ -14,7 +15,7 @@ use Rattle.packed.proofs.Bytes.{Bytes, behind}
 use Rattle.execute.proofs.Replies.{reply-bytes}
 use Rattle.deck.specs.Line.{look, Deck, deck, at_power_on, Answer, silently, voided, replied, is_open, size, looked, acted}
 use Rattle.deck.proofs.Steps.{look-shut, look-early, acted-other}
-use Rattle.deck.proofs.Cases.{expired, looked-late, size-more, length_more, acted-dropped, acted-flagged, acted-first, acted-more, acted-last}
+use Rattle.deck.proofs.Cases.{expired, looked-late, size-more, acted-dropped, acted-flagged, acted-first, acted-more, acted-last}
 use Rattle.record.specs.declared.Entry.{Entry}
 use Rattle.deck.specs.Calls.{flags_fit}
 use Rattle.record.specs.Entries.{entry, fits, WellFormed, handed, after_entry, run, last_time}
@@ -164,7 +165,7 @@ keeps-open zero fl c tm o l f s lat t b z h v = go (clean-or-not e) (cases_lt (s
         bytes = tt;
         opened = λ _. record {
           none = refl;
-          proper = rw (length_more o c, size-more o c b) y;
+          proper = rw (length_push o c, size-more o c b) (omega (arith, y));
           near = omega arith;
           heard = j;
           before = omega arith;
