@@ -3,10 +3,9 @@ use Rattle.std.specs.Prelude.{Result, Ok, Err, is_ok}
 use Prim.Native.Nat.{ℕ, ◌+◌, ◌≤◌, ◌<◌}
 use mathlib.Core.Path.{◌≡◌, refl, sym, ap, ◌∙◌}
 use mathlib.Core.List.{List, [], ◌∷◌, ◌++◌, append_assoc}
-use native.Mathlib.Numerals.{add-one}
 use lib.ListN.{length, take, drop, get_or, take-append-drop}
 use borrow.Table.Elements.{map_app}
-use lib.Seq.{take-suc}
+use Rattle.std.proofs.lemmas.List.{take_more}
 use Rattle.refusal.specs.declared.Refusal.{Refusal}
 use Rattle.deck.specs.Line.{Reply}
 use Rattle.record.specs.declared.Entry.{Entry}
@@ -36,9 +35,7 @@ sent due bytes = record_of (on_line (reply due bytes))
 
 pub sent-more : (due i : ℕ) (bytes : List ℕ) → i < length bytes
     → sent due (take (i + 1) bytes) ≡ sent due (take i bytes) ++ bytes_of (entry 1 0 (get_or bytes i 0) due)
-sent-more due i bytes h =
-    let e : take (i + 1) bytes ≡ take i bytes ++ (get_or bytes i 0 ∷ []) = rw (add-one i) (take-suc bytes i 0 h) in
-    rw (e, map_app, record-append, record-one)
+sent-more due i bytes h = rw (take_more bytes i 0 h, map_app, record-append, record-one)
 
 -- round one of them
 pub sent-around : (due i : ℕ) (bytes : List ℕ) → i < length bytes

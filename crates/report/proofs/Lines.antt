@@ -2,9 +2,8 @@
 use Prim.Native.Nat.{ℕ, ◌+◌, ◌<◌}
 use mathlib.Core.Path.{◌≡◌, refl, sym, ap, ◌∙◌}
 use mathlib.Core.List.{List, [], ◌∷◌, ◌++◌, append-nil, append_assoc}
-use native.Mathlib.Numerals.{add-one}
 use lib.ListN.{length, take, drop, get_or, take-append-drop}
-use lib.Seq.{take-suc}
+use Rattle.std.proofs.lemmas.List.{take_more}
 use Rattle.text.specs.Text.{hex_line}
 use Rattle.settings.specs.declared.Settings.{Settings}
 use Rattle.settings.specs.Status.{status_bytes}
@@ -22,7 +21,7 @@ turns-one x = append-nil (turn_line x)
 
 pub turns_more : (starts : List ℕ) (i : ℕ) → i < length starts
     → turn_lines (take (i + 1) starts) ≡ turn_lines (take i starts) ++ turn_line (get_or starts i 0)
-turns_more starts i h = rw (add-one i, take-suc starts i 0 h, turns-joined, turns-one)
+turns_more starts i h = rw (take_more starts i 0 h, turns-joined, turns-one)
 
 -- round one of them
 pub turns_around : (starts : List ℕ) (i : ℕ) → i < length starts

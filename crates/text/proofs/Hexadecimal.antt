@@ -2,13 +2,12 @@
 use Prim.Native.Nat.{ℕ, min, ◌+◌, ◌*◌, ◌/◌, ◌%◌, ◌<◌}
 use mathlib.Core.Path.{◌≡◌, refl, sym, ap, ◌∙◌}
 use mathlib.Core.List.{List, [], ◌∷◌, ◌++◌, append_assoc}
-use native.Mathlib.Numerals.{add-one}
 use native.Mathlib.Omega.{arith}
 use Rattle.std.proofs.Common.{inl, inr}
 use Rattle.std.proofs.Math.Nat.{min-eq_left, min-eq_right}
 use Rattle.std.proofs.lemmas.Bool.{cases_lt}
+use Rattle.std.proofs.lemmas.List.{take_more}
 use lib.ListN.{length, take, drop, get_or, take-append-drop}
-use lib.Seq.{take-suc}
 use Rattle.text.specs.Text.{hex_digit, hexes}
 
 -- three for each byte
@@ -28,7 +27,7 @@ hexes-one b = refl
 
 pub hexes-more : (bytes : List ℕ) (i : ℕ) → i < length bytes → hexes (take (i + 1) bytes)
     ≡ hexes (take i bytes) ++ (32 ∷ hex_digit (get_or bytes i 0 / 16) ∷ hex_digit (get_or bytes i 0 % 16) ∷ [])
-hexes-more bytes i h = rw (add-one i, take-suc bytes i 0 h, hexes-joined, hexes-one)
+hexes-more bytes i h = rw (take_more bytes i 0 h, hexes-joined, hexes-one)
 
 -- round one of them
 pub hexes-around : (bytes : List ℕ) (i : ℕ) → i < length bytes → hexes bytes
