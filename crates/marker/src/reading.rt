@@ -16,7 +16,8 @@ struct Reading {
     count: usize,
 }
 
-// What is ahead where the light entries end: an entry that fills the block, another one, or the record's end.
+// What is ahead where the light entries end: an entry that fills the block, another one, or the record's end. Not `Weighed`, which has the
+// marker of a light entry, and no entry.
 #[derive(Clone, Copy)]
 enum Ahead {
     Fills(Taken),
