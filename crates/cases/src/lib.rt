@@ -64,8 +64,8 @@ pub fn numbered<T: Drop>(answer: Result<T, Refusal>, none: T) -> (u8, T)
     }
 }
 
-// Whether what is left of a lent buffer is as it was lent: each element is `fill`. Where it is not, each program prints `touched` itself:
-// a function that prints has a contract that says nothing of what it prints.
+// Whether what is left of a lent buffer is as it was lent: each element is `fill`. Where it is not, each program prints `touched` itself.
+// A project rule: a public function's contract says all that it does, and none can say what is printed.
 pub fn untouched<T: Copy + PartialEq>(rest: &[T], fill: T) -> bool
     ensures { result ≡ list_all (λ x. T.eq x fill) rest.now }
 {

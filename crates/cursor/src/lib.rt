@@ -47,7 +47,7 @@ impl<'a> Iterator for Cursor<'a> {
 }
 
 // The entry at this place, read through a cursor, and where the cursor stands then: for who keeps the place and no cursor, as the marker's
-// loops do.
+// loops do. Slice and number, as in `record::read`: the form that the papers name.
 pub fn take(bytes: &[u8], place: usize) -> Result<Taken, Refusal>
     ensures { taken_by place result ≡ taken_at bytes.now place }
 {

@@ -17,8 +17,9 @@ mod line;
 // The latest time that a call takes.
 pub const LAST_TIME: u64 = 281474976710655;
 
-// The open block has `held` bytes, and is none where that is 0: `first`, and the latest of `tail`. A byte at a time below `free` is in
-// quiet. A speed bar: the block is no array with its length, which would be copied at each call, and `first` no `u8`, which leaves a gap.
+// The open block has `held` bytes, `first` and the latest of `tail`, and is none where that is 0: an `Option` of a count would be no
+// plainer, nor a method for that test. A byte at a time below `free` is in quiet. A speed bar: as an array the block was copied at each
+// call, most of the marker's time, and with a `u8` for `first` the struct has a gap, which no register holds.
 #[derive(Clone, Copy)]
 pub struct Deck {
     pub clock: u64,
@@ -38,7 +39,8 @@ pub struct Sent {
     pub due: u64,
 }
 
-// The deck, and the replies that stand at the front of the output. Where there is one, it is the first. No heap: two, and no list.
+// The deck, and the replies that stand at the front of the output. Where there is one, it is the first. No heap: no list, and an array of
+// two would be no plainer for who asks for the first alone.
 #[derive(Clone, Copy)]
 pub struct Answer {
     pub deck: Deck,
@@ -91,6 +93,7 @@ impl Deck {
     pub fn join(mut self, time: u64, content: u8) -> Result<Joined, Refusal>
         ensures { tried self result ≡ joining self time content }
     {
+        // No output is lent: 18, so that room is no reason to refuse.
         self.check(18, time, 0, 0)?;
         if !self.hears(time) {
             return Ok(Joined::Other);
@@ -137,7 +140,8 @@ impl Deck {
     }
 
     // `position` and `cassette` are alike but for the change: a function for both would take it as a closure, with a contract over it, and
-    // be no plainer. Each call begins with its tests and sets the clock then: `join`, `fill` and `strike` test more between the two.
+    // be no plainer. Each call begins with the same two lines; `join`, `fill` and `strike` test more between them, so that a function for
+    // the other four would save a line in each and be no plainer.
     pub fn position(mut self, time: u64, place: u32, out: &mut [u8]) -> Result<Answer, Refusal>
         ensures { Answers self (position time place) out.old (returned self result) out.new }
     {

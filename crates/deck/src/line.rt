@@ -47,7 +47,7 @@ impl Deck {
         (self.first % 16) as usize + 1 < self.held
     }
 
-    // No block is open after a reply, which may open a quiet: a flag beside its time, as each reply has them (`free_after`).
+    // No block is open after a reply, which may open a quiet. A flag beside its time. What may not change: `free_after` takes both.
     fn closed(mut self, quiets: bool, due: u64) -> Deck
         requires { due < 2 ^ 63 }
         ensures { (view result ≡ deck [] self.last (free_after quiets due self.free) self.settings) × (result.clock ≡ self.clock)

@@ -42,7 +42,7 @@ impl fmt::Display for Open {
 }
 
 // The replies that stand at the front of `out`, or by what number the call was refused, and whether the output behind them is not as it
-// was lent. A `Sent` tells of a length, since reply bytes lie in the output.
+// was lent. A `Sent` tells of a length, since reply bytes lie in the output. Split here as in `report`, which says why.
 pub(super) fn answer(
     rt: &impl Print,
     answer: Result<Answer, Refusal>,

@@ -56,6 +56,7 @@ fn point_code(which: Which) -> u8
     }
 }
 
+// A position that is none has the time zero, as in `report`: a function for that one call would be no plainer.
 fn point_time(which: Which, settings: Settings, out: &mut [u8; 18]) -> Executed
     ensures answer { result ≡ shown (carry (Some (ReplyKind.PointTime which)) settings []) }
     ensures output { out.new ≡ shown_out (carry (Some (ReplyKind.PointTime which)) settings []) out.old }

@@ -34,7 +34,7 @@ impl Why {
 const LISTED: usize = 5;
 
 // A full block in parts: its first byte, the latest `count` bytes of `tail`, and its last byte. The tail has its count beside it, as the
-// deck keeps them. A speed bar: a slice, or an array with its length, would be copied together first.
+// deck keeps them. A speed bar: through an array and `block::fields` the deck took a third longer.
 #[derive(Clone, Copy)]
 pub struct FullBlock {
     pub first: u8,

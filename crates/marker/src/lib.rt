@@ -19,8 +19,9 @@ mod reading;
 mod reply;
 mod step;
 
-// The bytes of a reply that are still to come are the first `left` of `reply`, none where that is 0; none is to come later than `latest`. A
-// speed bar: they are numbers with a count, since an array would be copied from place to place.
+// The bytes of a reply that are still to come are the first `left` of `reply`, none where that is 0: an `Option` of a count would be no
+// plainer. None is to come later than `latest`. A speed bar: they are numbers with a count; as an array they were copied from place to
+// place, and most of the marker's time went into such copies.
 #[derive(Clone, Copy)]
 pub struct Waits {
     pub reply: Packed,

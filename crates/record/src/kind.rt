@@ -5,7 +5,7 @@ ghost use Rattle.record.specs.Entries.{kind_of, kind_or_field};
 use super::Entry;
 use refusal::Refusal;
 
-// In the order of their numbers, which a cast tells.
+// In the order of their numbers, which a cast tells: a `From` for `u8` would be no plainer.
 #[derive(Clone, Copy, Debug, PartialEq, Eq)]
 pub enum Kind {
     Controller,

@@ -4,7 +4,8 @@
 ghost use Rattle.std.specs.Prelude.{◌≡◌};
 ghost use Rattle.refusal.specs.Numbers.{number_of};
 
-// In the order of their numbers, which `number` tells: a `From` for `u8` would be no plainer, and would not say what the byte is.
+// In the order of their numbers, which `number` tells. Each enum with numbers has such a method: Rattle derives none, and a `From` for `u8`
+// would be no plainer, and would not say what the byte is.
 #[derive(Clone, Copy, Debug, PartialEq, Eq)]
 pub enum Refusal {
     Room = 1,

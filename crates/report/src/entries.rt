@@ -13,8 +13,9 @@ use record::Entry;
 use refusal::Refusal;
 use text::Page;
 
-// A reply, if there is one, that stands at the front of these bytes. That they are as many is a clause, as in `put_answer`: a reply with
-// its bytes as a type would be made where these split them, and be no plainer.
+// A reply, if there is one, that stands at the front of these bytes. That they are enough is a clause, here and in `put_answer`, and the
+// split stands here, in `completion` and in deck_cases: a type of a reply with its bytes would be made by that split and used once in each,
+// and be no plainer.
 fn put_sent(page: &mut Page<'_>, sent: Option<Sent>, bytes: &[u8]) -> Result<(), Refusal>
     requires { len_of sent ≤ length bytes.now }
     ensures { Adds page.old (sent_line sent bytes.now) page.new result }
