@@ -19,19 +19,19 @@ pub const MOST: u32 = 1000000;
 pub const BLANK: u8 = 0xAA;
 
 // The next four bytes of the input as a size, lowest byte first, or none where it has too few or a read fails.
-pub fn size<R: Read>(input: &mut R) -> Option<usize>
+pub fn next_size<R: Read>(input: &mut R) -> Option<usize>
     ensures known { IfSome result (λ size. (bytes : List ℕ) × (length bytes ≡ 4) × (size ≡ first_four bytes)
         × Consumes (R.remaining input.old) (R.remaining input.new) bytes) }
     ensures short { IfNone result ((bytes : List ℕ) × (length bytes < 4)
         × Consumes (R.remaining input.old) (R.remaining input.new) bytes) }
 {
     let bytes = streams::read_array::<_, 4>(input)?;
-    Some(number(&bytes) as usize)
+    Some(first_number(&bytes) as usize)
 }
 
 // The first `size` elements, or all of them where there are fewer. No clause says what the space holds afterwards: an `ensures*` of a part
 // of a slice would have to be proved by hand.
-pub fn first<T>(space: &mut [T], size: usize) -> &mut [T]
+pub fn leading<T>(space: &mut [T], size: usize) -> &mut [T]
     ensures { result.now ≡ take size space.old }
 {
     let size = size.min(space.len());
@@ -39,17 +39,17 @@ pub fn first<T>(space: &mut [T], size: usize) -> &mut [T]
 }
 
 // The byte at `at`, and 0 past the end.
-pub fn byte(args: &[u8], at: usize) -> u8
+pub fn byte_or_zero(args: &[u8], at: usize) -> u8
     ensures { result ≡ slice_index args.now at }
 {
     args.get(at).copied().unwrap_or(0)
 }
 
 // The number that the first four bytes hold, lowest byte first, with 0 for a byte that is missing.
-pub fn number(args: &[u8]) -> u32
+pub fn first_number(args: &[u8]) -> u32
     ensures { result ≡ first_four args.now }
 {
-    u32::from_le_bytes(array::from_fn(|at| byte(args, at)))
+    u32::from_le_bytes(array::from_fn(|at| byte_or_zero(args, at)))
 }
 
 // An answer as document 01 has it: a number, 0 where nothing is refused, and a value, here `none` where something is. A pair, since the

@@ -11,13 +11,13 @@ use std::io::Read;
 // Takes one case, or none where the input has no more. mark_cases has cases of the same form, but lends other buffers and makes another
 // call.
 fn next(rt: &impl Print, input: &mut impl Read) -> Option<()> {
-    let size = cases::size(input)?;
-    let room = cases::size(input)?;
+    let size = cases::next_size(input)?;
+    let room = cases::next_size(input)?;
     // Room for a record and an output that are larger than the largest.
     let mut space = [0; 65552];
     let mut out = [cases::BLANK; 458768];
-    let out = cases::first(&mut out, room);
-    let record = streams::read_front(input, cases::first(&mut space, size));
+    let out = cases::leading(&mut out, room);
+    let record = streams::read_front(input, cases::leading(&mut space, size));
     let _ = show::written(rt, completion::complete(record, out), out);
     Some(())
 }

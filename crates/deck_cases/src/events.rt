@@ -13,7 +13,7 @@ fn event<F: FnOnce(&mut [u8]) -> Result<Answer, Refusal>>(
     requires { F.IsAlwaysCallable hand }
 {
     let mut space = [cases::BLANK; 64];
-    let out = cases::first(&mut space, room.into());
+    let out = cases::leading(&mut space, room.into());
     let answer = hand(out);
     let _ = show::answer(rt, answer, out);
     answer.map_or(deck, |answer| answer.deck)
@@ -35,7 +35,7 @@ pub(super) fn look(rt: &impl Print, deck: Deck, room: u8, time: u64) -> Deck {
 
 // The arguments are the place in four bytes, 0 where they are missing.
 pub(super) fn position(rt: &impl Print, deck: Deck, room: u8, time: u64, args: &[u8]) -> Deck {
-    let place = cases::number(args);
+    let place = cases::first_number(args);
     event(rt, deck, room, |out| deck.position(time, place, out))
 }
 

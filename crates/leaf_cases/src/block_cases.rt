@@ -30,9 +30,9 @@ pub(super) fn read(rt: &impl Print, args: &[u8]) -> io::Result<()> {
 
 // Arguments: group, command, room, data. Prints all of the output, so that what is untouched is seen too.
 pub(super) fn write(rt: &impl Print, args: &[u8]) -> io::Result<()> {
-    let group = cases::byte(args, 0);
-    let command = cases::byte(args, 1);
-    let room = cases::byte(args, 2);
+    let group = cases::byte_or_zero(args, 0);
+    let command = cases::byte_or_zero(args, 1);
+    let room = cases::byte_or_zero(args, 2);
     let data = args.get(3..).unwrap_or(&[]);
     let mut space = [cases::BLANK; 255];
     let out = &mut space[..usize::from(room)];

@@ -3,7 +3,7 @@ use line::Received;
 use std::io;
 
 pub(super) fn receive(rt: &impl Print, args: &[u8]) -> io::Result<()> {
-    let word = cases::number(args);
+    let word = cases::first_number(args);
     let (no, Received { byte, flags }) = cases::numbered(
         line::receive(word),
         Received { byte: 0, flags: 0 },

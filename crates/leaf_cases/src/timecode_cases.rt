@@ -10,7 +10,7 @@ pub(super) fn position(rt: &impl Print, args: &[u8]) -> io::Result<()> {
 }
 
 pub(super) fn time(rt: &impl Print, args: &[u8]) -> io::Result<()> {
-    let place = cases::number(args);
+    let place = cases::first_number(args);
     let (no, time) = numbered(timecode::time(place), [0; 4]);
     println!(rt; "time {place} -> {no} {}", Bytes(&time))
 }
@@ -24,7 +24,7 @@ pub(super) fn frame<F: FnOnce(u32) -> Result<u32, Refusal>>(
 ) -> io::Result<()>
     requires { F.IsAlwaysCallable to }
 {
-    let place = cases::number(args);
+    let place = cases::first_number(args);
     let (no, there) = numbered(to(place), 0);
     println!(rt; "{name} {place} -> {no} {there}")
 }

@@ -11,13 +11,13 @@ use std::io::Read;
 // Takes one case, or none where the input has no more. complete_cases has cases of the same form, but lends other buffers and makes
 // another call.
 fn next(rt: &impl Print, input: &mut impl Read) -> Option<()> {
-    let size = cases::size(input)?;
-    let places = cases::size(input)?;
+    let size = cases::next_size(input)?;
+    let places = cases::next_size(input)?;
     // Room for a record and a table that are larger than the largest.
     let mut space = [0; 65552];
     let mut table = [show::FILL; 6000];
-    let table = cases::first(&mut table, places);
-    let record = streams::read_front(input, cases::first(&mut space, size));
+    let table = cases::leading(&mut table, places);
+    let record = streams::read_front(input, cases::leading(&mut space, size));
     let marked = marker::mark(record, table).into();
     let _ = show::marked(rt, marked, table);
     Some(())
