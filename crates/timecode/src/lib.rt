@@ -30,7 +30,7 @@ fn bcd_of(n: u32) -> u8
     requires { n < 100 }
     ensures { result ≡ bcd n }
 {
-    (n / 10 * 16 + n % 10) as u8
+    (n / 10 << 4 | n % 10) as u8
 }
 
 #[tactic(auto, unfolding(crate::specs::Time::read_time))]
