@@ -1,7 +1,7 @@
 -- What the replies leave in an output with room for them, and a reply behind another.
 use Prim.Native.Nat.{ℕ, ◌+◌, ◌-◌, ◌≤◌}
-use mathlib.Core.Path.{◌≡◌, refl, ◌∙◌}
-use Rattle.std.proofs.Common.{Result, Ok}
+use mathlib.Core.Path.{◌≡◌, refl, ap, ◌∙◌}
+use Rattle.std.proofs.Common.{Result, Ok, Err}
 use mathlib.Core.List.{List, [], ◌++◌, append-nil, ◌∷◌}
 use native.Mathlib.Omega.{arith}
 use borrow.Author.Tests.{le-ltb}
@@ -10,11 +10,13 @@ use lib.ListN.{length, take, drop, length-drop, drop_of_length-le}
 use lib.Seq.{take_all, take_at, drop_at, drop-drop}
 use Rattle.refusal.specs.declared.Refusal.{Refusal}
 use Rattle.refusal.specs.Written.{written_by}
+use Rattle.refusal.proofs.Numbers.{refuses}
 use Rattle.refusal.proofs.Written.{taken}
 use Rattle.block.proofs.Writing.{fits-writes, answer-written, output-written}
 use Rattle.block.specs.Write.{write_no, written, written_out}
 use Rattle.settings.specs.declared.Settings.{Settings}
-use Rattle.execute.specs.Execute.{execute, executed, executed_out, shown, shown_out}
+use Rattle.execute.specs.declared.Executed.{Executed}
+use Rattle.execute.specs.Execute.{execute, Done, done_by, executed, executed_out, shown, shown_out}
 use Rattle.execute.specs.Replies.{nak}
 
 -- a NAK
@@ -30,9 +32,10 @@ module _ (why : ℕ) (out : List ℕ) (room : 4 ≤ length out) where
 
 -- the reply to a full block
 module _ (s : Settings) (block out : List ℕ) (room : 18 ≤ length out) where
-  pub executed-shown : executed s block out ≡ Ok (shown (execute s block))
+  pub executed-shown : (r : Result Executed Refusal) → done_by s r ≡ executed s block out → r ≡ Ok (shown (execute s block))
   unfolding executed
-  executed-shown = rw (le-ltb (length out) 18 room)
+  executed-shown (Ok d) e = ap (λ (d : Done). Ok (record { settings = d.settings; len = d.len; quiets = d.quiets })) (rw (le-ltb (length out) 18 room) at e)
+  executed-shown (Err x) e = absurd (refuses x (ap (λ (d : Done). d.no) (rw (le-ltb (length out) 18 room) at e)))
 
   pub executed-output : executed_out s block out ≡ shown_out (execute s block) out
   unfolding executed_out

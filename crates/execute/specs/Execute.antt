@@ -1,10 +1,10 @@
 -- Document 01: "A full block: checksum, then command with its exact count, then data; the first failure gives the NAK."
-use Rattle.std.specs.Prelude.{ℕ, Bool, cond, Option, Some, None, Result, Ok, Err, ◌&&◌, List, [], ◌∷◌, ◌++◌, length, take, drop, ◌==◌, nat_le, nat_lt, slice_index}
+use Rattle.std.specs.Prelude.{ℕ, Bool, false, cond, Option, Some, None, Result, Ok, Err, ◌&&◌, List, [], ◌∷◌, ◌++◌, length, take, drop, ◌==◌, nat_le, nat_lt, slice_index}
 use Rattle.packed.specs.Tail.{latest}
 use Rattle.block.specs.Read.{read_no, read_data}
 use Rattle.timecode.specs.Time.{write_time}
 use Rattle.refusal.specs.declared.Refusal.{Refusal}
-use Rattle.refusal.specs.declared.Refusal.TheVariants.{Room}
+use Rattle.refusal.specs.Numbers.{number_of}
 use Rattle.execute.specs.declared.Executed.{Executed}
 use Rattle.execute.specs.declared.FullBlock.{FullBlock}
 use Rattle.execute.specs.declared.Why.{Why}
@@ -77,9 +77,24 @@ shown o = record { settings = o.settings; len = length o.bytes; quiets = o.quiet
 abbrev pub shown_out : Outcome → List ℕ → List ℕ
 shown_out o out = o.bytes ++ drop (length o.bytes) out
 
+-- the number of the call, the settings, the length of the reply, and whether it opens a quiet
+pub record Done : Type 0 where
+  pub no : ℕ
+  pub settings : Settings
+  pub len : ℕ
+  pub quiets : Bool
+
+-- 0 where the call is taken; a refused one has its number, the settings given and no reply
+abbrev pub done_by : Settings → Result Executed Refusal → Done
+done_by s (Ok e) = record { no = 0; settings = e.settings; len = e.len; quiets = e.quiets }
+done_by s (Err e) = record { no = number_of e; settings = s; len = 0; quiets = false }
+
 -- 1 ROOM: "under 18 bytes for the deck"
-unfoldable pub executed : Settings → List ℕ → List ℕ → Result Executed Refusal
-executed s block out = cond (nat_lt (length out) 18) (Err Room) (Ok (shown (execute s block)))
+unfoldable pub executed : Settings → List ℕ → List ℕ → Done
+executed s block out =
+    cond (nat_lt (length out) 18)
+    (record { no = 1; settings = s; len = 0; quiets = false })
+    (done_by s (Ok (shown (execute s block))))
 
 unfoldable pub executed_out : Settings → List ℕ → List ℕ → List ℕ
 executed_out s block out = cond (nat_lt (length out) 18) out (shown_out (execute s block) out)

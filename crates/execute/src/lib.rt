@@ -5,7 +5,7 @@ ghost use Rattle.std.specs.Prelude.{◌≡◌, [], ◌∷◌};
 ghost use Rattle.refusal.specs.Written.{written_by};
 ghost use Rattle.block.specs.Write.{written, written_out};
 ghost use Rattle.execute.specs.Replies.{opens_quiet};
-ghost use Rattle.execute.specs.Execute.{why_of, block_in, execute, shown, shown_out, executed, executed_out};
+ghost use Rattle.execute.specs.Execute.{why_of, block_in, execute, shown, shown_out, done_by, executed, executed_out};
 
 use packed::Tail;
 use refusal::Refusal;
@@ -84,7 +84,7 @@ fn run(settings: Settings, block: FullBlock, out: &mut [u8; 18]) -> Executed
 
 // What a full block does to the settings, with the reply at the front of the output.
 pub fn execute(settings: Settings, block: FullBlock, out: &mut [u8]) -> Result<Executed, Refusal>
-    ensures answer { result ≡ executed settings (block_in block) out.old }
+    ensures answer { done_by settings result ≡ executed settings (block_in block) out.old }
     ensures output { out.new ≡ executed_out settings (block_in block) out.old }
 {
     match out.first_chunk_mut::<18>() {

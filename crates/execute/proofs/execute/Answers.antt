@@ -1,5 +1,5 @@
 -- `execute::execute` meets its contract: the reply, which is no longer than 18 bytes, stands at the front of the output.
-use Rattle.std.proofs.Common.{◌≡◌, ℕ, ◌≤◌, true, false, ltb, Ok, List, ◌++◌, length, take, drop, sym, ap, ◌∙◌, append_assoc, arith, le-ltb, lt-ltb, length-take}
+use Rattle.std.proofs.Common.{◌≡◌, ℕ, ◌≤◌, true, false, ltb, refl, List, ◌++◌, length, take, drop, sym, ap, ◌∙◌, append_assoc, arith, le-ltb, lt-ltb, length-take}
 use Rattle.std.proofs.lemmas.List.{drop-append-le, take-append-drop}
 use Rattle.execute.specs.Replies.{Outcome}
 use Rattle.execute.specs.Execute.{execute, block_in, shown_out, executed, executed_out}
@@ -19,7 +19,7 @@ pub returns-in-Some-clause-answer : goal.returns-in-Some-clause-answer
 unfolding executed
 returns-in-Some-clause-answer c =
     let room : ltb (length c.args.out.now) 18 ≡ false = le-ltb _ 18 c.in-Some.ensures.cases.enough in
-    rw room (ap Ok c.run.ensures.answer)
+    rw (room, c.run.ensures.answer) refl
 
 pub returns-in-Some-clause-output : goal.returns-in-Some-clause-output
 unfolding executed_out

@@ -6,7 +6,7 @@ use lib.ListN.{length}
 use Rattle.std.proofs.Common.{Result, Ok}
 use Rattle.refusal.specs.declared.Refusal.{Refusal}
 use Rattle.execute.specs.declared.Executed.{Executed}
-use Rattle.execute.specs.Execute.{block_in, execute, executed, executed_out, shown, shown_out}
+use Rattle.execute.specs.Execute.{block_in, execute, done_by, executed, executed_out, shown, shown_out}
 use Rattle.execute.specs.Replies.{Outcome}
 use Rattle.deck.specs.declared.Deck.{Deck as Held}
 use Rattle.deck.specs.Calls.{view}
@@ -23,8 +23,8 @@ module _ (d : Held) (content : ℕ) (out : List ℕ) (held : 1 ≤ d.held) (room
   abbrev block : List ℕ
   block = block_in (handed d.held d.first content d.tail)
 
-  done : (r : Result Executed Refusal) → r ≡ executed d.settings block out → r ≡ Ok (shown outcome)
-  done r e = rw (in_parts d.held d.first content d.tail held) at e ∙ executed-shown d.settings ((view d).block ++ content ∷ []) out room
+  done : (r : Result Executed Refusal) → done_by d.settings r ≡ executed d.settings block out → r ≡ Ok (shown outcome)
+  done r e = executed-shown d.settings ((view d).block ++ content ∷ []) out room r (rw (in_parts d.held d.first content d.tail held) at e)
 
   put : (exit : List ℕ) → exit ≡ executed_out d.settings block out → exit ≡ shown_out outcome out
   put exit e = rw (in_parts d.held d.first content d.tail held) at e ∙ executed-output d.settings ((view d).block ++ content ∷ []) out room
