@@ -6,17 +6,23 @@ use super::{Entry, Kind};
 use deck::{LAST_TIME, flags_fit};
 use timecode::DAY;
 
-// This table and that of `meant` stay two: two rules of the papers, and of four lines two differ; one over the other is no plainer.
+// This table and that of `meant` stay two: two rules of the papers, and of four lines two differ; one over the other is no plainer. A speed
+// bar: with all four kinds in one `match` this takes twice the time, by a jump that is not foreseen.
 #[tactic(auto, using(crate::proofs::Forms::fits_by))]
 fn fits(e: Entry) -> bool
     ensures { result ≡ fits e.kind e }
 {
+    if e.kind() == Some(Kind::Controller) {
+        return flags_fit(e.flags) && e.content < 256;
+    }
+    if e.flags != 0 {
+        return false;
+    }
     match e.kind() {
-        Some(Kind::Controller) => flags_fit(e.flags) && e.content < 256,
-        Some(Kind::Deck) => e.flags == 0 && e.content < 256,
-        Some(Kind::Position) => e.flags == 0 && e.content < DAY,
-        Some(Kind::Cassette) => e.flags == 0 && e.content == 0,
-        None => false,
+        Some(Kind::Deck) => e.content < 256,
+        Some(Kind::Position) => e.content < DAY,
+        Some(Kind::Cassette) => e.content == 0,
+        Some(Kind::Controller) | None => false,
     }
 }
 
