@@ -1,5 +1,5 @@
 -- Entries put on a page as bytes.
-use Rattle.std.specs.Prelude.{Result, Ok, Err, is_ok}
+use Rattle.std.specs.Prelude.{Option, Some, None, Result, Ok, Err, is_ok}
 use Prim.Native.Nat.{ℕ, ◌+◌, ◌≤◌, ◌<◌}
 use mathlib.Core.Path.{◌≡◌, refl, sym, ap, ◌∙◌}
 use mathlib.Core.List.{List, [], ◌∷◌, ◌++◌, append_assoc}
@@ -7,6 +7,7 @@ use lib.ListN.{length, take, drop, get_or, take-append-drop}
 use borrow.Table.Elements.{map_app}
 use Rattle.std.proofs.lemmas.List.{take_more}
 use Rattle.refusal.specs.declared.Refusal.{Refusal}
+use Rattle.deck.specs.declared.Sent.{Sent}
 use Rattle.deck.specs.Line.{Reply}
 use Rattle.record.specs.declared.Entry.{Entry}
 use Rattle.record.specs.Entries.{entry}
@@ -14,8 +15,9 @@ use Rattle.record.specs.Bytes.{bytes_of, record_of}
 use Rattle.record.proofs.Records.{record-append, record-one}
 use Rattle.text.specs.declared.Page.{Page}
 use Rattle.text.specs.Puts.{Adds}
+use Rattle.text.proofs.Writing.{stops}
 use Rattle.completion.specs.Completed.{on_line, with_reply}
-use Rattle.completion.specs.Calls.{reply}
+use Rattle.completion.specs.Calls.{reply, with_answer}
 use Rattle.completion.proofs.Placed.{with-last, with-before}
 
 -- ---- the same text, whatever the call hands out
@@ -51,3 +53,10 @@ module _ (e : Entry) (r : Reply) where
 
   pub reply-before : r.due < e.time → record_of (with_reply (e ∷ []) r) ≡ record_of (on_line r) ++ bytes_of e
   reply-before h = rw (with-before e r h, record-append, record-one)
+
+-- where the first reply is not put, nor is what is behind it
+pub unanswered : {a b : Page} {r : Result (Unit {0}) Refusal} {x : Refusal} (e : Entry) (s : Sent) (q : Option Sent) (bytes : List ℕ)
+    → r ≡ Err x → (t : Result (Unit {0}) Refusal) → Adds a (record_of (with_reply (e ∷ []) (reply s.due (take s.len bytes)))) b r
+    → Adds a (record_of (with_answer e (Some s) q bytes)) b t
+unanswered e s None bytes is t w = refused is t w
+unanswered e s (Some p) bytes is t w = rw record-append (stops w is _ _)
