@@ -18,7 +18,7 @@ fn next(rt: &impl Print, input: &mut impl Read) -> Option<()> {
     let mut out = [cases::BLANK; 458768];
     let out = cases::leading(&mut out, room);
     let record = streams::read_front(input, cases::leading(&mut space, size));
-    let _ = show::written(rt, completion::complete(record, out), out);
+    show::written(rt, completion::complete(record, out), out);
     Some(())
 }
 

@@ -15,7 +15,7 @@ fn event<F: FnOnce(&mut [u8]) -> Result<Answer, Refusal>>(
     let mut space = [cases::BLANK; 64];
     let out = cases::leading(&mut space, room.into());
     let answer = hand(out);
-    let _ = show::answer(rt, answer, out);
+    show::answer(rt, answer, out);
     answer.map_or(deck, |answer| answer.deck)
 }
 

@@ -12,7 +12,7 @@ mod show;
 
 // The end of a sequence. The next one has a deck of its own.
 fn end(rt: &impl Print, deck: Deck) -> Deck {
-    let _ = show::state(rt, deck);
+    show::state(rt, deck);
     Deck::power_on()
 }
 

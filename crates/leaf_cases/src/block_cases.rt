@@ -1,35 +1,35 @@
 // Calls of the crate `block`.
-use crate::show::Bytes;
+use crate::show;
 use block::Header;
 use cases::numbered;
-use std::io;
 
-pub(super) fn sum(rt: &impl Print, args: &[u8]) -> io::Result<()> {
-    println!(rt; "sum {} -> {:02x}", Bytes(args), block::sum(args))
+pub(super) fn sum(rt: &impl Print, args: &[u8]) {
+    show::text(rt, b"sum");
+    show::bytes(rt, args);
+    show::gives(rt);
+    show::byte(rt, block::sum(args));
 }
 
 // Both functions of the reader.
-pub(super) fn read(rt: &impl Print, args: &[u8]) -> io::Result<()> {
+pub(super) fn read(rt: &impl Print, args: &[u8]) {
     let none = Header {
         group: 0,
         command: 0,
         count: 0,
     };
     let (no, header) = numbered(block::fields(args), none);
-    let Header {
-        group,
-        command,
-        count,
-    } = header;
-    let data = Bytes(block::data(args));
-    println!(rt;
-        "read {} -> {no} {group} {command:02x} {count} {data}",
-        Bytes(args)
-    )
+    show::text(rt, b"read");
+    show::bytes(rt, args);
+    show::gives(rt);
+    show::small(rt, no);
+    show::small(rt, header.group);
+    show::byte(rt, header.command);
+    show::small(rt, header.count);
+    show::bytes(rt, block::data(args));
 }
 
 // Arguments: group, command, room, data. Prints all of the output, so that what is untouched is seen too.
-pub(super) fn write(rt: &impl Print, args: &[u8]) -> io::Result<()> {
+pub(super) fn write(rt: &impl Print, args: &[u8]) {
     let group = cases::byte_or_zero(args, 0);
     let command = cases::byte_or_zero(args, 1);
     let room = cases::byte_or_zero(args, 2);
@@ -38,9 +38,13 @@ pub(super) fn write(rt: &impl Print, args: &[u8]) -> io::Result<()> {
     let out = &mut space[..usize::from(room)];
     // A length beside the output, as `write` hands it back: what is behind it is printed too.
     let (no, len) = numbered(block::write(group, command, data, out), 0);
-    let data = Bytes(data);
-    println!(rt;
-        "write {group} {command:02x} {data} {room} -> {no} {len} {}",
-        Bytes(out)
-    )
+    show::text(rt, b"write");
+    show::small(rt, group);
+    show::byte(rt, command);
+    show::bytes(rt, data);
+    show::small(rt, room);
+    show::gives(rt);
+    show::small(rt, no);
+    show::number(rt, len as u64);
+    show::bytes(rt, out);
 }

@@ -10,10 +10,9 @@ mod show;
 mod speed_cases;
 mod timecode_cases;
 
-use std::io;
 use std::io::Read;
 
-fn call(rt: &impl Print, letter: u8, args: &[u8]) -> io::Result<()> {
+fn call(rt: &impl Print, letter: u8, args: &[u8]) {
     // A table of functions is no plainer: it would have these lines too, and a search.
     match letter {
         b'l' => line_cases::receive(rt, args),
@@ -22,11 +21,12 @@ fn call(rt: &impl Print, letter: u8, args: &[u8]) -> io::Result<()> {
         b'w' => block_cases::write(rt, args),
         b'p' => timecode_cases::position(rt, args),
         b't' => timecode_cases::time(rt, args),
-        b'n' => timecode_cases::frame(rt, "frame_on", args, timecode::frame_on),
-        b'k' => timecode_cases::frame(rt, "frame_back", args, timecode::frame_back),
+        b'n' => timecode_cases::frame(rt, b"frame_on", args, timecode::frame_on),
+        b'k' => timecode_cases::frame(rt, b"frame_back", args, timecode::frame_back),
         b'v' => speed_cases::speed(rt, args),
-        _ => println!(rt; "unknown"),
+        _ => show::text(rt, b"unknown"),
     }
+    show::text(rt, b"\n");
 }
 
 // Takes one case, or none where the input has no more. Each test program has its own, since their cases have other forms.
@@ -34,7 +34,7 @@ fn next(rt: &impl Print, input: &mut impl Read) -> Option<()> {
     let [letter, size] = streams::read_array::<_, 2>(input)?;
     let mut space = [0; 255];
     let args = &mut space[..usize::from(size)];
-    let _ = call(rt, letter, streams::read_front(input, args));
+    call(rt, letter, streams::read_front(input, args));
     Some(())
 }
 

@@ -19,7 +19,7 @@ fn next(rt: &impl Print, input: &mut impl Read) -> Option<()> {
     let table = cases::leading(&mut table, places);
     let record = streams::read_front(input, cases::leading(&mut space, size));
     let marked = marker::mark(record, table).into();
-    let _ = show::marked(rt, marked, table);
+    show::marked(rt, marked, table);
     Some(())
 }
 
