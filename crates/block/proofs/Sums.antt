@@ -8,6 +8,11 @@ unfolding sum
 sum-append [] ys = omega arith
 sum-append (b ∷ xs) ys = omega (arith, sum-append xs ys)
 
+-- one byte more
+pub checksum-more : (xs : List ℕ) (b : ℕ) → checksum (xs ++ b ∷ []) ≡ (checksum xs + b) % 256
+unfolding sum
+checksum-more xs b = omega (arith, sum-append xs (b ∷ []))
+
 folded : (xs : List ℕ) (a : ℕ) → a < 256 → fold (λ t b. (t + b) % 256) a xs ≡ (a + sum xs) % 256
 unfolding sum
 folded [] a h = omega arith

@@ -23,10 +23,10 @@ use Rattle.marker.specs.Steps.{awaited, heard, Prompt, Timed, Acts}
 
 -- ---- no more than one reply
 
--- none, or one, due at t at the latest
+-- none, or one with bytes, due at t at the latest
 abbrev pub Brief : ℕ → List Reply → Type 0
 Brief t [] = Unit
-Brief t (r ∷ []) = r.due ≤ t
+Brief t (r ∷ []) = (0 < length r.bytes) × (r.due ≤ t)
 Brief t (r ∷ s ∷ rs) = ⊥
 
 -- a look finds a time-out at most
@@ -35,8 +35,8 @@ brief-look d t = go (few-replies d (look t))
   where
     go : {rs : List Reply} → Few d (look t) rs → Brief t rs
     go none = tt
-    go (one r p h k) = omega (arith, p)
-    go (late h) = omega (arith, overdue d t h)
+    go (one r p h k) = (omega arith, omega (arith, p))
+    go (late h) = (omega arith, omega (arith, overdue d t h))
 
 -- after a look at its time an event finds none
 pub brief-soon : (d : Deck) (e : Event) → looked d (time_of e) ≡ silently d → Brief (time_of e) (answers d e).replies
@@ -44,13 +44,13 @@ brief-soon d e p = go e p (few-replies d e)
   where
     go : (e : Event) → looked d (time_of e) ≡ silently d → {rs : List Reply} → Few d e rs → Brief (time_of e) rs
     go e p none = tt
-    go e p (one r q h k) = omega (arith, q)
+    go e p (one r q h k) = (omega arith, omega (arith, q))
     go e p (late h) = absurd (late-looked d (time_of e) h p)
     go e p (two {t} h f) = absurd (late-looked d t h p)
 
 told-due : (t : ℕ) (rs : List Reply) → Brief t rs → t < 2 ^ 48 → IfSome (told rs) (λ s. s.due < 2 ^ 48)
 told-due t [] b h = tt
-told-due t (r ∷ []) b h = omega (arith, b)
+told-due t (r ∷ []) b h = omega (arith, b.1)
 told-due t (r ∷ s ∷ rs) b h = absurd b
 
 -- from what a caller sees, such replies are awaited as the automaton does

@@ -130,5 +130,14 @@ err-number (Err f) = refl
 
 -- there is a place for one start more
 pub has-room : {bytes before after : List ℕ} {m : Marker} {count place : ℕ} → Leads bytes before after m count place
+    → place < length bytes / 12 → length bytes ≤ 65532 → length bytes / 12 ≤ length before
+    → (place ≤ 65532) × (count < length after) × (count < 65532)
+has-room v h most room =
+    (omega (arith, v.within), omega (arith, v.few, v.size), omega (arith, v.few, v.within))
+
+-- what a start that is written there asks for
+pub has-place : {bytes before after : List ℕ} {m : Marker} {count place : ℕ} → Leads bytes before after m count place
     → place < length bytes / 12 → Roomy bytes before → (place < 2 ^ 32) × (count < length after)
-has-room v h r = (omega (arith, r.short), omega (arith, v.few, v.size, r.room))
+has-place v h r =
+    let (few, free, least) = has-room v h r.short r.room in
+    (omega (arith, few), free)

@@ -10,8 +10,15 @@ use lib.ListN.{length, take, drop, take-append-drop}
 use lib.Seq.{length-take-le}
 use Rattle.record.proofs.Bytes.{length-entries}
 use Rattle.record.proofs.Unique.{one_answer as one-demand}
+use Rattle.std.specs.Prelude.{Option, Some, None, Result, Ok, Err}
+use Rattle.refusal.specs.declared.Refusal.{Refusal}
+use Rattle.refusal.proofs.Numbers.{refuses, apart as refusal-numbers}
+use Rattle.marker.specs.declared.faults.Fault.{Fault}
+use Rattle.marker.specs.declared.Findings.{Findings}
 use Rattle.marker.specs.declared.Marked.{Marked}
-use Rattle.marker.specs.Marks.{nothing, Marks}
+use Rattle.marker.specs.Faults.{fault_or_0}
+use Rattle.marker.specs.Marks.{nothing, marked_by, Marks}
+use Rattle.marker.proofs.Numbers.{above, apart as fault-numbers}
 use Rattle.marker.proofs.Taken.{fitting}
 
 -- the table has a place for each start that is counted
@@ -46,3 +53,26 @@ one_answer {bytes} {before} {after} {other} {r} {s} l m a b = by_number r.no ref
     by_number : (n : ℕ) → r.no ≡ n → (r ≡ s) × (after ≡ other)
     by_number zero z = taken z
     by_number (suc n) z = refused (λ y. omega arith)
+
+-- ---- and so of what it returns: no two results are one in those numbers
+
+fault_apart : (f g : Option Fault) → fault_or_0 f ≡ fault_or_0 g → f ≡ g
+fault_apart None None e = refl
+fault_apart None (Some g) e = absurd (above g (sym e))
+fault_apart (Some f) None e = absurd (above f e)
+fault_apart (Some f) (Some g) e = ap Some (fault-numbers f g e)
+
+result_apart : (r s : Result Findings Refusal) → marked_by r ≡ marked_by s → r ≡ s
+result_apart (Ok f) (Ok g) e =
+    let fault : f.fault ≡ g.fault = fault_apart f.fault g.fault (ap (λ (m : Marked). m.fault) e) in
+    let place : f.place ≡ g.place = ap (λ (m : Marked). m.place) e in
+    let count : f.count ≡ g.count = ap (λ (m : Marked). m.count) e in
+    λ i. Ok (record { fault = fault i; place = place i; count = count i })
+result_apart (Ok f) (Err d) e = absurd (refuses d (sym (ap (λ (m : Marked). m.no) e)))
+result_apart (Err c) (Ok g) e = absurd (refuses c (ap (λ (m : Marked). m.no) e))
+result_apart (Err c) (Err d) e = ap Err (refusal-numbers c d (ap (λ (m : Marked). m.no) e))
+
+pub one_result : {bytes before after other : List ℕ} {r s : Result Findings Refusal} → length after ≡ length before
+    → length other ≡ length before → Marks bytes before (marked_by r) after → Marks bytes before (marked_by s) other
+    → (r ≡ s) × (after ≡ other)
+one_result {r = r} {s} l m a b = let (same, table) = one_answer l m a b in (result_apart r s same, table)

@@ -1,5 +1,5 @@
 -- Entries as bytes: reading and writing undo each other, and the places of a record's bytes walk its list of entries.
-use Prim.Native.Nat.{ℕ, zero, suc, ◌+◌, ◌/◌, ◌%◌, ◌^◌, ◌≤◌, ◌<◌}
+use Prim.Native.Nat.{ℕ, zero, suc, ◌+◌, ◌*◌, ◌/◌, ◌%◌, ◌^◌, ◌≤◌, ◌<◌}
 use mathlib.Core.Path.{◌≡◌, refl, sym, ap, ap₂, ◌∙◌}
 use mathlib.Core.Bool.{true}
 use mathlib.Core.List.{List, [], ◌∷◌, ◌++◌}
@@ -13,7 +13,7 @@ use Rattle.std.specs.Int.{w32, w64, bytes_low_first, to_le_bytes, from_le_bytes}
 use borrow.Author.Tests.{lt-ltb, le-ltb, leb-true}
 use lib.Dec.{eqb, leb}
 use lib.ListN.{length, get_or, take, drop, length-drop, take-append-drop, get_or-eq_default}
-use lib.Seq.{take_all, take_at, drop_at, drop-cons}
+use lib.Seq.{take_all, take_at, drop_at, drop-cons, drop-drop}
 use Rattle.packed.specs.Numbers.{low_first, low_bytes}
 use Rattle.packed.proofs.Bytes.{Bytes, behind}
 use Rattle.packed.proofs.Numbers.{length-low, low-back, low-take, low_part, bytes_back}
@@ -55,6 +55,14 @@ unfolding first_entries
 length-first zero b = refl
 length-first (suc n) b = ap suc (length-first n (drop 12 b))
 
+first-at : (n i : ℕ) (b : List ℕ) → i < n → get_or (first_entries n b) i no_entry ≡ entry_of (drop (i * 12) b)
+unfolding first_entries
+first-at zero i b h = absurd (omega arith)
+first-at (suc n) zero b h = refl
+first-at (suc n) (suc i) b h =
+    let e : suc i * 12 ≡ 12 + i * 12 = omega arith in
+    rw (e, ← drop-drop (i * 12) 12 b) (first-at n i (drop 12 b) (omega arith))
+
 -- an entry lies in its twelve bytes, which std cuts off
 chunk_entry : (b : List ℕ) → entry_of (take 12 b) ≡ entry_of b
 unfolding entry_of
@@ -75,6 +83,10 @@ module _ (b : List ℕ) where
   length-entries = length-first (length b / 12) b
 
   module _ (i : ℕ) where
+    pub entry_at : i < length b / 12 → get_or (entries_of b) i no_entry ≡ entry_of (drop (i * 12) b)
+    unfolding entries_of
+    entry_at h = first-at (length b / 12) i b h
+
     pub no-entry-at : length b / 12 ≤ i → get_or (entries_of b) i no_entry ≡ no_entry
     no-entry-at h = get_or-eq_default (entries_of b) no_entry (omega (arith, length-entries))
 

@@ -49,8 +49,8 @@ told-lines (r ∷ s ∷ q ∷ rs) out z = absurd z
 
 told-small : (rs : List Reply) → Sized rs → len_of (told rs) + len_of (told (drop 1 rs)) ≤ 18
 told-small [] z = omega arith
-told-small (r ∷ []) z = omega (arith, z)
-told-small (r ∷ s ∷ []) z = z
+told-small (r ∷ []) z = omega (arith, z.1)
+told-small (r ∷ s ∷ []) z = z.2
 told-small (r ∷ s ∷ q ∷ rs) z = absurd z
 
 -- ---- a call

@@ -7,7 +7,7 @@ use Rattle.std.specs.Prelude.{Err}
 use Rattle.marker.specs.Faults.{fault_or_0}
 use Rattle.marker.specs.Steps.{stepped, stepped_by, Steps}
 use Rattle.marker.proofs.Entries.{here}
-use Rattle.marker.proofs.Judged.{begins-so, across, ended, faulty, on, err-number, has-room}
+use Rattle.marker.proofs.Judged.{begins-so, across, ended, faulty, on, err-number, has-place}
 use Rattle.marker.proofs.reading.run.Goals as goal
 
 pub loop-taken-init : goal.loop-taken-init
@@ -16,7 +16,7 @@ loop-taken-init c = rw c.start-reading.ensures (begins-so c.args.bytes.now c.arg
 pub on-reading-requires : goal.on-reading-requires
 on-reading-requires c =
     let s = rw c.in-Fills.is at c.pass-ahead.ensures.ahead in
-    has-room (across c.loop-taken.invariant c.pass-ahead.ensures.leads c.pass-ahead.ensures.more) (here _ _ _ s.0).0 c.requires
+    has-place (across c.loop-taken.invariant c.pass-ahead.ensures.leads c.pass-ahead.ensures.more) (here _ _ _ s.0).0 c.requires
 
 pub loop-taken-smaller-in-Fills : goal.loop-taken-smaller-in-Fills
 loop-taken-smaller-in-Fills c =
@@ -33,12 +33,12 @@ loop-taken-preserved-in-Fills c =
     let t = c.fill.result in
     let x = subst (λ (e : Entry). Steps r.marker e (stepped t)) h.1 c.fill.ensures in
     rw (c.on-reading.ensures.reading, c.on-reading.ensures.table, h.2)
-    (on a.bytes.now a.table.now c.pass-ahead.new.table r.marker r.count r.place v h.0 t x (has-room v h.0 c.requires).1)
+    (on a.bytes.now a.table.now c.pass-ahead.new.table r.marker r.count r.place v h.0 t x (has-place v h.0 c.requires).1)
 
 pub on-reading-requires-in-Ok : goal.on-reading-requires-in-Ok
 on-reading-requires-in-Ok c =
     let s = rw c.in-Heavy.is at c.pass-ahead.ensures.ahead in
-    has-room (across c.loop-taken.invariant c.pass-ahead.ensures.leads c.pass-ahead.ensures.more) (here _ _ _ s.0).0 c.requires
+    has-place (across c.loop-taken.invariant c.pass-ahead.ensures.leads c.pass-ahead.ensures.more) (here _ _ _ s.0).0 c.requires
 
 pub loop-taken-smaller : goal.loop-taken-smaller
 loop-taken-smaller c =
@@ -55,7 +55,7 @@ loop-taken-preserved c =
     let t = c.in-Ok.stepped in
     let x = subst (λ (e : Entry). Steps r.marker e (stepped t)) h.1 c.in-Ok.ensures in
     rw (c.on-reading-in-Ok.ensures.reading, c.on-reading-in-Ok.ensures.table, h.2)
-    (on a.bytes.now a.table.now c.pass-ahead.new.table r.marker r.count r.place v h.0 t x (has-room v h.0 c.requires).1)
+    (on a.bytes.now a.table.now c.pass-ahead.new.table r.marker r.count r.place v h.0 t x (has-place v h.0 c.requires).1)
 
 pub returns-in-Err : goal.returns-in-Err
 returns-in-Err c =
