@@ -1,6 +1,6 @@
 -- The kinds of entries, as the code tests them.
 use Prim.Native.Nat.{ℕ, zero, suc, ◌<◌, ◌^◌}
-use mathlib.Core.Path.{◌≡◌, refl, sym, ap, ◌∙◌}
+use mathlib.Core.Path.{◌≡◌, refl, sym, ◌∙◌}
 use mathlib.Core.Bool.{true, false, false≢true}
 use borrow.Author.Tests.{ltb-true}
 use lib.Dec.{eqb, ltb}
@@ -8,7 +8,7 @@ use Rattle.std.proofs.lemmas.Bool.{and_parts}
 use Rattle.timecode.specs.Time.{day}
 use Rattle.deck.specs.Calls.{flags_fit}
 use Rattle.record.specs.declared.Entry.{Entry}
-use Rattle.std.specs.Prelude.{Some}
+use Rattle.std.specs.Prelude.{Some, None}
 use Rattle.record.specs.declared.kind.Kind.TheVariants.{Controller, Deck as DeckByte, Position, Cassette}
 use Rattle.record.specs.Entries.{kind_of, fits, formed, is_controller, is_deck}
 use Rattle.record.proofs.Forms.{fits-controller, fits-position}
@@ -69,11 +69,14 @@ module _ (e : Entry) (f : formed e ≡ true) where
   formed-position p =
       ltb-true e.content day (and_parts (eqb e.flags 0) (ltb e.content day) (sym (fits-position e p) ∙ fits-true)).1
 
-  -- a kind that is none of the first three is the fourth
-  pub formed-kind : (k : ℕ) → e.kind ≡ k → (k ≡ 0 → ⊥) → (k ≡ 1 → ⊥) → (k ≡ 2 → ⊥) → k ≡ 3
+  -- it has a kind
+  pub formed-kind : None ≡ kind_of e.kind → ⊥
   unfolding fits
-  formed-kind zero p a b c = absurd (a refl)
-  formed-kind (suc zero) p a b c = absurd (b refl)
-  formed-kind (suc (suc zero)) p a b c = absurd (c refl)
-  formed-kind (suc (suc (suc zero))) p a b c = refl
-  formed-kind (suc (suc (suc (suc k)))) p a b c = absurd (false≢true (sym (ap (λ (k : ℕ). fits k e) p) ∙ fits-true))
+  formed-kind n = go e.kind n fits-true
+    where
+      go : (k : ℕ) → None ≡ kind_of k → fits k e ≡ true → ⊥
+      go zero n f = cc
+      go (suc zero) n f = cc
+      go (suc (suc zero)) n f = cc
+      go (suc (suc (suc zero))) n f = cc
+      go (suc (suc (suc (suc k)))) n f = false≢true f

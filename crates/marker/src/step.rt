@@ -81,10 +81,11 @@ impl Marker {
         ensures { fault_in result ≡ late_fault (view self.deck) (awaited self.waits) e }
     {
         let Some(next) = self.waits.next() else {
-            return match e.kind() {
-                Some(Kind::Deck) => Err(Fault::Unawaited),
-                _ => Ok(()),
-            };
+            // A speed bar: with a `match` here a twentieth more, too.
+            if e.kind() == Some(Kind::Deck) {
+                return Err(Fault::Unawaited);
+            }
+            return Ok(());
         };
         if self.waits.latest < e.time {
             return Err(Fault::Overdue);
@@ -110,20 +111,21 @@ impl Marker {
         requires unfilled { e.kind ≡ 0 → e.flags ≡ 0 → fills (view self.deck) e.time e.content ≡ false }
         ensures { Does self e result }
     {
-        // A speed bar: with a `match` on the kind the marker takes up to a third longer on such entries.
+        // A speed bar: with this one among the others, or with tests for all, the marker takes a twentieth more instructions where it reads
+        // controller bytes in a quiet. So there is none below.
         if e.kind == Kind::Controller as u8 {
             return self.hear(e.time, e.content as u8, e.flags);
         }
-        if e.kind == Kind::Deck as u8 {
-            return Marker {
+        match e.kind() {
+            Some(Kind::Controller) => self,
+            Some(Kind::Deck) => Marker {
                 waits: self.waits.taken(e.time),
                 ..self
-            };
+            },
+            Some(Kind::Position) => self.moved(e.time, e.content),
+            Some(Kind::Cassette) => self.loaded(e.time),
+            None => unreachable!(),
         }
-        if e.kind == Kind::Position as u8 {
-            return self.moved(e.time, e.content);
-        }
-        self.loaded(e.time)
     }
 
     // An entry that fills the block, where no reply is awaited: it breaks no rule.
