@@ -66,8 +66,13 @@ pub fn numbered<T: Drop>(answer: Result<T, Refusal>, none: T) -> (u8, T)
 
 // Whether what is left of a lent buffer is as it was lent: each element is `fill`. Where it is not, each program prints `touched` itself.
 // A project rule: a public function's contract says all that it does, and none can say what is printed.
+// A speed bar: over all of the rest, since a loop that stops at the first that is not takes up to four times as long.
 pub fn untouched<T: Copy + PartialEq>(rest: &[T], fill: T) -> bool
     ensures { result ≡ list_all (λ x. T.eq x fill) rest.now }
 {
-    rest.iter().all(|x| *x == fill)
+    let mut all = true;
+    for x in rest {
+        all &= *x == fill;
+    }
+    all
 }
