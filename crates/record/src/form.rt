@@ -12,7 +12,7 @@ use timecode::DAY;
 fn fits(e: Entry) -> bool
     ensures { result ≡ fits e.kind e }
 {
-    if e.kind() == Some(Kind::Controller) {
+    if e.kind == Kind::Controller as u8 {
         return flags_fit(e.flags) && e.content < 256;
     }
     if e.flags != 0 {
