@@ -63,6 +63,7 @@ fault_apart (Some f) None e = absurd (above f e)
 fault_apart (Some f) (Some g) e = ap Some (fault-numbers f g e)
 
 result_apart : (r s : Result Findings Refusal) → marked_by r ≡ marked_by s → r ≡ s
+result_apart (Err c) (Err d) e = ap Err (refusal-numbers c d (ap (λ (m : Marked). m.no) e))
 result_apart (Ok f) (Ok g) e =
     let fault : f.fault ≡ g.fault = fault_apart f.fault g.fault (ap (λ (m : Marked). m.fault) e) in
     let place : f.place ≡ g.place = ap (λ (m : Marked). m.place) e in
@@ -70,7 +71,6 @@ result_apart (Ok f) (Ok g) e =
     λ i. Ok (record { fault = fault i; place = place i; count = count i })
 result_apart (Ok f) (Err d) e = absurd (refuses d (sym (ap (λ (m : Marked). m.no) e)))
 result_apart (Err c) (Ok g) e = absurd (refuses c (ap (λ (m : Marked). m.no) e))
-result_apart (Err c) (Err d) e = ap Err (refusal-numbers c d (ap (λ (m : Marked). m.no) e))
 
 pub one_result : {bytes before after other : List ℕ} {r s : Result Findings Refusal} → length after ≡ length before
     → length other ≡ length before → Marks bytes before (marked_by r) after → Marks bytes before (marked_by s) other

@@ -81,7 +81,7 @@ impl Marker {
         ensures { fault_in result ≡ late_fault (view self.deck) (awaited self.waits) e }
     {
         let Some(next) = self.waits.next() else {
-            // A speed bar: with a `match` here a twentieth more, too.
+            // A speed bar: with a `match` here the marker takes a twentieth more instructions on entries that are not light.
             if e.kind() == Some(Kind::Deck) {
                 return Err(Fault::Unawaited);
             }
@@ -112,7 +112,7 @@ impl Marker {
         ensures { Does self e result }
     {
         // A speed bar: with this one among the others, or with tests for all, the marker takes a twentieth more instructions where it reads
-        // controller bytes in a quiet. So there is none below.
+        // controller bytes in a quiet. Its arm below is not reached.
         if e.kind == Kind::Controller as u8 {
             return self.hear(e.time, e.content as u8, e.flags);
         }
