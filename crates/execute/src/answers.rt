@@ -18,9 +18,9 @@ fn answer(settings: Settings, group: u8, command: u8, data: &[u8], out: &mut [u8
     ensures output { out.new ≡ shown_out (answered settings group command «data».now) out.old }
 {
     Executed {
-        settings,
         len: block::write(group, command, data, out).unwrap(),
         quiets: false,
+        settings,
     }
 }
 
@@ -30,9 +30,9 @@ pub(super) fn refuse(settings: Settings, why: Why, out: &mut [u8; 18]) -> Execut
 {
     let code = why.byte();
     Executed {
-        settings,
         len: super::nak(code, out).unwrap(),
         quiets: super::opens_quiet(code),
+        settings,
     }
 }
 

@@ -6,8 +6,8 @@ use super::{Entry, Kind};
 use deck::{LAST_TIME, flags_fit};
 use timecode::DAY;
 
-// This table and that of `meant` stay two: two rules of the papers, and of four lines two differ; one over the other is no plainer. A speed
-// bar: with all four kinds in one `match` this takes twice the time, by a jump that is not foreseen.
+// This test and the table of `meant` stay two: two rules of the papers, which differ in two of four kinds; one over the other is no plainer.
+// A speed bar: with all four kinds in one `match` this takes twice the time, by a jump that is not foreseen.
 #[tactic(auto, using(crate::proofs::Forms::fits_by))]
 fn fits(e: Entry) -> bool
     ensures { result ≡ fits e.kind e }
