@@ -7,7 +7,7 @@ use deck::{LAST_TIME, flags_fit};
 use timecode::DAY;
 
 // This test and the table of `meant` stay two: two rules of the papers, which differ in two of four kinds; one over the other is no plainer.
-// A speed bar: with all four kinds in one `match` this takes twice the time, by a jump that is not foreseen.
+// A speed bar: with a `match` of the last three kinds this takes a third more time, with one of all four twice, by a jump that is not foreseen.
 #[tactic(auto, using(crate::proofs::Forms::fits_by))]
 fn fits(e: Entry) -> bool
     ensures { result ≡ fits e.kind e }
@@ -18,12 +18,13 @@ fn fits(e: Entry) -> bool
     if e.flags != 0 {
         return false;
     }
-    match e.kind() {
-        Some(Kind::Deck) => e.content < 256,
-        Some(Kind::Position) => e.content < DAY,
-        Some(Kind::Cassette) => e.content == 0,
-        Some(Kind::Controller) | None => false,
+    if e.kind == Kind::Deck as u8 {
+        return e.content < 256;
     }
+    if e.kind == Kind::Position as u8 {
+        return e.content < DAY;
+    }
+    e.kind == Kind::Cassette as u8 && e.content == 0
 }
 
 pub fn formed(e: Entry) -> bool
