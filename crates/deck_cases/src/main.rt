@@ -19,9 +19,9 @@ fn end(rt: &impl Print, deck: Deck) -> Deck {
 // Takes one call, and hands on the deck after it, or none where the input has no more. Each test program has its own, since their cases
 // have other forms.
 fn next(rt: &impl Print, input: &mut impl Read, deck: Deck) -> Option<Deck> {
-    let [letter, room] = streams::read_array::<_, 2>(input)?;
-    let time = u64::from_le_bytes(streams::read_array(input)?);
-    let [size] = streams::read_array::<_, 1>(input)?;
+    // At once: of a message what is not read is lost.
+    let [letter, room, a, b, c, d, e, f, g, h, size] = streams::read_array::<_, 11>(input)?;
+    let time = u64::from_le_bytes([a, b, c, d, e, f, g, h]);
     let mut space = [0; 255];
     let args = &mut space[..usize::from(size)];
     let args = streams::read_front(input, args);

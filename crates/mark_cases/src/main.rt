@@ -11,8 +11,11 @@ use std::io::Read;
 // Takes one case, or none where the input has no more. complete_cases has cases of the same form, but lends other buffers and makes
 // another call.
 fn next(rt: &impl Print, input: &mut impl Read) -> Option<()> {
-    let size = cases::next_size(input)?;
-    let places = cases::next_size(input)?;
+    // At once: of a message what is not read is lost.
+    let head = streams::read_array::<_, 8>(input)?;
+    let mut head = &head[..];
+    let size = cases::next_size(&mut head)?;
+    let places = cases::next_size(&mut head)?;
     // Room for a record and a table that are larger than the largest.
     let mut space = [0; 65552];
     let mut table = [show::FILL; 6000];
